@@ -1,0 +1,9 @@
+pub mod File
+pub mod Name
+pub mod Store
+pub mod Result
+pub mod ChannelCalls
+pub mod NameCalls
+pub mod Tables
+pub mod Sound
+pub mod Run
