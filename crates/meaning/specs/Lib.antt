@@ -7,3 +7,9 @@ pub mod NameCalls
 pub mod Tables
 pub mod Sound
 pub mod Run
+pub mod Determined
+pub mod Text
+pub mod Running
+pub mod Figures
+pub mod Damage
+pub mod Sessions
