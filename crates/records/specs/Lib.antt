@@ -2,3 +2,6 @@ pub mod Rows
 pub mod Numbers
 pub mod Tests
 pub mod RowLaws
+pub mod LoopLaws
+pub mod NumberLaws
+pub mod RecordLaws

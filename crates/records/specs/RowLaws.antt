@@ -107,6 +107,11 @@ unfolding every
 all-every zero p e = refl
 all-every (suc n) p e = rw (all-every n p (λ i h. e i (omega arith)), e n (omega arith))
 
+pub every-cong : (n : ℕ) (p q : ℕ → Bool) → ((i : ℕ) → i < n → p i ≡ q i) → every n p ≡ every n q
+unfolding every
+every-cong zero p q e = refl
+every-cong (suc n) p q e = rw (every-cong n p q (λ i h. e i (omega arith)), e n (omega arith))
+
 -- ---- sums
 
 pub sum-cong : (n : ℕ) (g h : ℕ → ℕ) → ((i : ℕ) → i < n → g i ≡ h i) → sum n g ≡ sum n h

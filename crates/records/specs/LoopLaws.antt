@@ -1,0 +1,96 @@
+-- Laws of the rows as a loop at i meets them: the start, the step to i + 1, the end.
+use Prim.Native.Nat.{ℕ, _+_, _-_, _≤_, _<_}
+use mathlib.Core.Path.{_≡_, refl, sym, _∙_}
+use mathlib.Core.Logic.{⊎-elim}
+use mathlib.Core.Bool.{Bool, true, false, true≢false}
+use native.Mathlib.Numerals.{add-one}
+use native.Mathlib.Omega.{arith}
+use lib.Dec.{ltb}
+use borrow.Author.Tests.{lt-ltb, le-ltb}
+use Rattle.records.specs.Rows.{tally, lowest, lowestFrom, every, howMany, sum}
+use Rattle.records.specs.Tests.{tested, lt-or-ge}
+use Rattle.records.specs.RowLaws.{search-hit, search-miss, search-end, every-all, howMany-mono, sum-constant, sum-term, lowest-hit, some-lowest}
+
+-- ---- a search: what is left of it gives what the whole gives
+
+module _ (p : ℕ → Bool) (n : ℕ) where
+  pub search-start : lowest n p ≡ lowestFrom 0 (n - 0) p
+  unfolding lowest
+  search-start = let e : n - 0 ≡ n = omega arith in rw e
+
+  module _ (i : ℕ) (so-far : lowest n p ≡ lowestFrom i (n - i) p) where
+    pub search-found : i < n → p i ≡ true → i ≡ lowest n p
+    search-found h e = sym (so-far ∙ search-hit p i n h e)
+
+    pub search-passed : i < n → p i ≡ false → lowest n p ≡ lowestFrom (i + 1) (n - (i + 1)) p
+    search-passed h e = so-far ∙ search-miss p i n h e
+
+    pub search-none : i ≤ n → n ≤ i → n ≡ lowest n p
+    search-none l h = let e : n ≡ i = omega arith in e ∙ sym (so-far ∙ search-end p i n h)
+
+-- ---- whether every index passes
+
+module _ (p : ℕ → Bool) where
+  pub every-start : every 0 p ≡ true
+  unfolding every
+  every-start = refl
+
+  pub every-step : (i : ℕ) → every i p ≡ true → p i ≡ true → every (i + 1) p ≡ true
+  unfolding every
+  every-step i so-far e = rw (add-one, so-far, e)
+
+  pub every-fail : (i n : ℕ) → i < n → p i ≡ false → every n p ≡ false
+  every-fail i n h e =
+      ⊎-elim
+      (λ (t : every n p ≡ true). let z : true ≡ false = sym (every-all n p t i h) ∙ e in absurd (true≢false z))
+      (λ f. f)
+      (tested (every n p))
+
+-- ---- how many pass
+
+module _ (p : ℕ → Bool) where
+  pub count-start : howMany 0 p ≡ 0
+  unfolding howMany sum
+  count-start = refl
+
+  module _ (i : ℕ) where
+    pub count-hit : p i ≡ true → howMany (i + 1) p ≡ howMany i p + 1
+    unfolding howMany sum
+    count-hit e = rw (add-one i, e)
+
+    pub count-miss : p i ≡ false → howMany (i + 1) p ≡ howMany i p
+    unfolding howMany sum
+    count-miss e = rw (add-one, e) (omega arith)
+
+  pub howMany-within : (n : ℕ) → howMany n p ≤ n
+  unfolding howMany
+  howMany-within n = omega (arith, howMany-mono n p (λ i. true) (λ i h e. refl), sum-constant n 1)
+
+  -- one passes exactly where the lowest is one
+  pub lowest-some : (n : ℕ) → lowest n p < n → 0 < howMany n p
+  unfolding howMany
+  lowest-some n h = omega (arith, sum-term n (λ i. tally (p i)) (lowest n p) h, one-there)
+    where
+      one-there : tally (p (lowest n p)) ≡ 1
+      one-there = rw (lowest-hit n p h)
+
+  pub some-test : (n : ℕ) → ltb (lowest n p) n ≡ ltb 0 (howMany n p)
+  some-test n =
+      ⊎-elim
+      (λ (h : 0 < howMany n p). rw (lt-ltb 0 (howMany n p) h, lt-ltb (lowest n p) n (some-lowest n p h)))
+      (λ (h : howMany n p ≤ 0). ⊎-elim
+      (λ (l : lowest n p < n). absurd (omega (arith, lowest-some n l)))
+      (λ (l : n ≤ lowest n p). rw (le-ltb 0 (howMany n p) h, le-ltb (lowest n p) n l))
+      (lt-or-ge (lowest n p) n))
+      (lt-or-ge 0 (howMany n p))
+
+-- ---- a sum
+
+module _ (g : ℕ → ℕ) where
+  pub sum-start : sum 0 g ≡ 0
+  unfolding sum
+  sum-start = refl
+
+  pub sum-step : (i : ℕ) → sum (i + 1) g ≡ sum i g + g i
+  unfolding sum
+  sum-step i = rw add-one

@@ -1,0 +1,111 @@
+-- Laws of numbers in bytes. An index `j` with `j ≡ ..` is free, so that a caller's own form of it serves.
+use Prim.Native.Nat.{ℕ, _+_, _*_, _/_, _%_, _≤_, _<_}
+use mathlib.Core.Path.{_≡_, refl, ap}
+use mathlib.Core.List.{List, _++_}
+use mathlib.Core.Bool.{true}
+use native.Mathlib.Omega.{arith}
+use native.Mathlib.Nat.{add-zero, add-assoc}
+use lib.ListN.{length, getD, List·getD-append}
+use lib.Seq.{getD-append-add}
+use lib.Dec.{eqb}
+use borrow.Author.Tests.{eq-eqb, eqb-true}
+use Rattle.records.specs.RowLaws.{every-all, all-every, every-cong}
+use Rattle.records.specs.Numbers.{one, two, four, twoBytes, fourBytes, zeros}
+
+-- ---- a number and its bytes
+
+pub length-twoBytes : (n : ℕ) → length (twoBytes n) ≡ 2
+unfolding twoBytes
+length-twoBytes n = refl
+
+pub length-fourBytes : (n : ℕ) → length (fourBytes n) ≡ 4
+unfolding fourBytes twoBytes
+length-fourBytes n = refl
+
+-- a number that fits comes back from its bytes
+pub two-of : (n : ℕ) → n < 65536 → two (twoBytes n) 0 ≡ n
+unfolding two one twoBytes
+two-of n h = omega arith
+
+pub four-of : (n : ℕ) → n < 4294967296 → four (fourBytes n) 0 ≡ n
+unfolding four two one fourBytes twoBytes
+four-of n h = omega arith
+
+-- two bytes hold what is left of a number by 65536
+remainder : (x q k : ℕ) → x ≡ 256 * q + k → k < 256 → x % 256 ≡ k
+remainder x q k e h = let f : x / 256 ≡ q = omega arith in omega arith
+
+pub low-half : (n : ℕ) → twoBytes (n % 65536) ≡ twoBytes n
+unfolding twoBytes
+low-half n =
+    let small : n % 65536 / 256 < 256 = omega arith in
+    let low : n % 65536 % 256 ≡ n % 256 = omega arith in
+    let high : n / 256 % 256 ≡ n % 65536 / 256 = remainder (n / 256) (n / 65536) (n % 65536 / 256) (omega arith) small in
+    let same : n % 65536 / 256 % 256 ≡ n % 65536 / 256 = omega arith in
+    rw (low, high, same)
+
+-- a number of two or four bytes fits
+module _ (l : List ℕ) (bytes : (j : ℕ) → getD l j 0 < 256) where
+  pub two-small : (at : ℕ) → two l at < 65536
+  unfolding two one
+  two-small at = omega (arith, bytes at, bytes (at + 1))
+
+  pub four-small : (at : ℕ) → four l at < 4294967296
+  unfolding four
+  four-small at = omega (arith, two-small at, two-small (at + 2))
+
+-- ---- equal bytes give equal numbers
+
+pub one-cong : (l m : List ℕ) (i j : ℕ) → getD l i 0 ≡ getD m j 0 → one l i ≡ one m j
+unfolding one
+one-cong l m i j e = e
+
+pub two-cong : (l m : List ℕ) (i j : ℕ) → ((k : ℕ) → k < 2 → getD l (i + k) 0 ≡ getD m (j + k) 0) → two l i ≡ two m j
+unfolding two one
+two-cong l m i j e =
+    let first : getD l i 0 ≡ getD m j 0 = simp add-zero at (e 0 (omega arith)) in
+    omega (arith, e 1 (omega arith))
+
+pub four-cong : (l m : List ℕ) (i j : ℕ) → ((k : ℕ) → k < 4 → getD l (i + k) 0 ≡ getD m (j + k) 0) → four l i ≡ four m j
+unfolding four
+four-cong l m i j e =
+    let low : two l i ≡ two m j = two-cong l m i j (λ k (h : k < 2). e k (omega arith)) in
+    let high : two l (i + 2) ≡ two m (j + 2) =
+    two-cong l m (i + 2) (j + 2) (λ k (h : k < 2). simp add-assoc (e (2 + k) (omega arith))) in
+    omega arith
+
+pub zeros-cong : (l m : List ℕ) (i j n : ℕ) → ((k : ℕ) → k < n → getD l (i + k) 0 ≡ getD m (j + k) 0) → zeros l i n ≡ zeros m j n
+unfolding zeros one
+zeros-cong l m i j n e =
+    every-cong n (λ k. eqb (getD l (i + k) 0) 0) (λ k. eqb (getD m (j + k) 0) 0) (λ k h. ap (λ b. eqb b 0) (e k h))
+
+-- ---- two lists one after the other
+
+module _ (xs ys : List ℕ) where
+  -- read in the first
+  pub two-first : (at : ℕ) → at + 2 ≤ length xs → two (xs ++ ys) at ≡ two xs at
+  two-first at h = two-cong (xs ++ ys) xs at at (λ k (l : k < 2). List·getD-append xs ys 0 (at + k) (omega arith))
+
+  pub four-first : (at : ℕ) → at + 4 ≤ length xs → four (xs ++ ys) at ≡ four xs at
+  four-first at h = four-cong (xs ++ ys) xs at at (λ k (l : k < 4). List·getD-append xs ys 0 (at + k) (omega arith))
+
+  -- read in the second
+  second : (at j k : ℕ) → j ≡ length xs + at → getD (xs ++ ys) (j + k) 0 ≡ getD ys (at + k) 0
+  second at j k e = let e′ : j + k ≡ length xs + (at + k) = omega arith in rw e′ (getD-append-add xs ys (at + k) 0)
+
+  pub two-second : (at j : ℕ) → j ≡ length xs + at → two (xs ++ ys) j ≡ two ys at
+  two-second at j e = two-cong (xs ++ ys) ys j at (λ k l. second at j k e)
+
+  pub four-second : (at j : ℕ) → j ≡ length xs + at → four (xs ++ ys) j ≡ four ys at
+  four-second at j e = four-cong (xs ++ ys) ys j at (λ k l. second at j k e)
+
+-- ---- bytes that are zero
+
+module _ (l : List ℕ) (at n : ℕ) where
+  pub zeros-zero : zeros l at n ≡ true → (i : ℕ) → i < n → getD l (at + i) 0 ≡ 0
+  unfolding zeros one
+  zeros-zero z i h = eqb-true (getD l (at + i) 0) 0 (every-all n (λ i. eqb (getD l (at + i) 0) 0) z i h)
+
+  pub zero-zeros : ((i : ℕ) → i < n → getD l (at + i) 0 ≡ 0) → zeros l at n ≡ true
+  unfolding zeros one
+  zero-zeros z = all-every n (λ i. eqb (getD l (at + i) 0) 0) (λ i (h : i < n). eq-eqb (getD l (at + i) 0) 0 (z i h))
