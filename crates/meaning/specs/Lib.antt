@@ -8,6 +8,7 @@ pub mod Tables
 pub mod Sound
 pub mod Run
 pub mod Determined
+pub mod Answers
 pub mod Text
 pub mod Running
 pub mod Figures
