@@ -1,4 +1,5 @@
 pub mod File
+pub mod FileLaws
 pub mod Name
 pub mod Store
 pub mod Result
