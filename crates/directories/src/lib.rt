@@ -1,0 +1,1 @@
+// Directories: laws of their records in specs/.
