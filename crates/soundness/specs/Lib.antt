@@ -1,0 +1,5 @@
+pub mod Use
+pub mod Well
+pub mod FormLaws
+pub mod WellLaws
+pub mod WellFacts
