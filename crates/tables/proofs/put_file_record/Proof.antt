@@ -1,7 +1,7 @@
 -- The parts of the record, one right after the other, are the record.
 use Prim.Native.Nat.{ℕ, _+_, _-_, _*_}
 use mathlib.Core.Path.{_≡_}
-use mathlib.Core.List.{List, [], _∷_, _++_}
+use mathlib.Core.List.{List, [], _∷_}
 use native.Mathlib.Omega.{arith}
 use lib.Seq.{sets}
 use Rattle.records.specs.Numbers.{twoBytes, fourBytes, withRecord}
