@@ -1,4 +1,4 @@
--- What a well-written name reads as: its row of syllables, the place of each, and the last one.
+-- What a well-written name reads as: its row of syllables, and the place of each.
 use Prim.Native.Nat.{ℕ, zero, suc, _+_, _-_, _≤_, _<_}
 use mathlib.Core.Path.{_≡_, refl, ap, sym, _∙_}
 use mathlib.Core.List.{List, [], _∷_}
