@@ -1,4 +1,4 @@
--- What a well-written name reads as: its row of syllables, the place of each, and the last one.
+-- What a well-written name reads as: its row of syllables, and the place of each.
 use Prim.Native.Nat.{ℕ, zero, suc, _+_, _-_, _≤_, _<_}
 use mathlib.Core.Path.{_≡_, refl, ap, sym, _∙_}
 use mathlib.Core.List.{List, [], _∷_}
@@ -17,10 +17,10 @@ use Rattle.meaning.specs.Name.{slash, mostSyllables, isSyllable, split, areSyll
 use Rattle.names.specs.Syllables.{part, isSlash, syllableEnd, syllablesFrom, Reaches, placeOf}
 use Rattle.names.specs.SyllableLaws.{ends, split-from, split-some, ends-at-slash, split-next, row-is, reach-is}
 
--- ---- what the definition says of a name that is written as one
+-- ---- what the definition says of a well-written name
 
--- "/" alone, or the pieces behind the first slash
-pub record Written (bytes : List ℕ) (name : List (List ℕ)) : Type 0 where
+-- a name with syllables: they are the pieces behind the first slash
+pub record InPieces (bytes : List ℕ) (name : List (List ℕ)) : Type 0 where
   pub long : 1 < length bytes
   pub first : one bytes 0 ≡ slash
   pub pieces : split (drop 1 bytes) ≡ name
@@ -42,13 +42,13 @@ module _ (name : List (List ℕ)) (are : areSyllables name ≡ true) where
       every-all (length name) (λ i. isSyllable (getD name i []))
       (and-right (leb (length name) mostSyllables) (every (length name) (λ i. isSyllable (getD name i []))) are)
 
-pub written-as : (bytes : List ℕ) (name : List (List ℕ)) → syllables bytes ≡ some name → (0 < length name) → Written bytes name
+pub in-pieces : (bytes : List ℕ) (name : List (List ℕ)) → syllables bytes ≡ some name → (0 < length name) → InPieces bytes name
 unfolding syllables one
-written-as [] name e h = let z : _≡_ {A = ℕ} 0 1 = cc in absurd (omega arith)
-written-as (b ∷ []) name e h =
+in-pieces [] name e h = let z : _≡_ {A = ℕ} 0 1 = cc in absurd (omega arith)
+in-pieces (b ∷ []) name e h =
     let p = picked (eqb b slash) [] name e in
     absurd (omega (arith, ap length (p .1)))
-written-as (b ∷ c ∷ rest) name e h =
+in-pieces (b ∷ c ∷ rest) name e h =
     let s = split (c ∷ rest) in
     let p = picked (eqb b slash && areSyllables s) s name e in
     let are = and-right (eqb b slash) (areSyllables s) (p .0) in
@@ -94,10 +94,10 @@ read bytes [] e =
     none-left (suc k) h = absurd (omega arith)
 
     none-reached : (k : ℕ) → k ≤ 0 → Reaches bytes 1 k
-    none-reached zero h = tt
+    none-reached zero h = unfold Reaches in tt
     none-reached (suc k) h = absurd (omega arith)
 read bytes (s ∷ ss) e =
-    let w = written-as bytes (s ∷ ss) e (omega arith) in
+    let w = in-pieces bytes (s ∷ ss) e (omega arith) in
     let inside : 1 ≤ length bytes = omega (arith, w .long) in
     let p = w .pieces in
     record {
@@ -116,7 +116,7 @@ pub record Placed (bytes : List ℕ) (name : List (List ℕ)) (k : ℕ) : Type 0
   pub behind : one bytes (placeOf bytes k - 1) ≡ slash
   pub rest : split (drop (placeOf bytes k) bytes) ≡ drop k name
 
-pub placed : (bytes : List ℕ) (name : List (List ℕ)) → Written bytes name → (k : ℕ) → k < length name → Placed bytes name k
+pub placed : (bytes : List ℕ) (name : List (List ℕ)) → InPieces bytes name → (k : ℕ) → k < length name → Placed bytes name k
 unfolding placeOf
 placed bytes name w zero h = record { low = omega arith; within = omega (arith, w .long); behind = w .first; rest = w .pieces }
 placed bytes name w (suc k) h =
@@ -138,7 +138,7 @@ placed bytes name w (suc k) h =
 
 module _ (bytes : List ℕ) (name : List (List ℕ)) (is : syllables bytes ≡ some name) (k : ℕ) (h : k < length name) where
   pub at-place : Placed bytes name k
-  at-place = placed bytes name (written-as bytes name is (omega arith)) k h
+  at-place = placed bytes name (in-pieces bytes name is (omega arith)) k h
 
   -- syllable k is the part from its place up to its end
   pub syllable-is : getD name k [] ≡ part bytes (placeOf bytes k) (syllableEnd bytes (placeOf bytes k))

@@ -12,7 +12,7 @@ use Rattle.records.specs.Numbers.{one}
 use Rattle.meaning.specs.Name.{slash, isSyllable, before, split, areSyllables, syllables}
 use Rattle.names.specs.ByteLaws.{drop-one}
 use Rattle.names.specs.SyllableTests.{syllable-no-slash}
-use Rattle.names.specs.ReadLaws.{written-as, are-each, root-is}
+use Rattle.names.specs.ReadLaws.{in-pieces, are-each, root-is}
 use Rattle.names.specs.SyllableLaws.{split-some}
 
 -- each syllable behind one "/"
@@ -76,6 +76,6 @@ pub spelled-read : (bytes : List ℕ) (name : List (List ℕ)) → syllables byt
 unfolding spell following joined
 spelled-read bytes [] e = sym (root-is bytes e)
 spelled-read bytes (s ∷ ss) e =
-    let w = written-as bytes (s ∷ ss) e (omega arith) in
+    let w = in-pieces bytes (s ∷ ss) e (omega arith) in
     let behind : s ++ following ss ≡ drop 1 bytes = ap joined (sym (w .pieces)) ∙ joined-split (drop 1 bytes) in
     ap₂ _∷_ (sym (w .first)) behind ∙ sym (drop-one bytes 0 (omega (arith, w .long)))

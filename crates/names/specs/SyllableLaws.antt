@@ -1,6 +1,6 @@
 -- A name walked from the left: where its syllables are, and what the walk says of the whole.
 use Prim.Native.Nat.{ℕ, zero, suc, _+_, _-_, _≤_, _<_}
-use mathlib.Core.Path.{_≡_, refl, ap, _∙_}
+use mathlib.Core.Path.{_≡_, refl, ap, subst, _∙_}
 use mathlib.Core.Logic.{⊎-elim}
 use mathlib.Core.List.{List, [], _∷_}
 use mathlib.Core.Bool.{Bool, true, false}
@@ -120,6 +120,7 @@ row-is (suc (suc k)) bytes at inside h =
 
 pub reach-is : (k : ℕ) (bytes : List ℕ) (at : ℕ) → at ≤ length bytes → k ≤ length (split (drop at bytes)) →
     ((i : ℕ) → i < length (split (drop at bytes)) → isSyllable (getD (split (drop at bytes)) i []) ≡ true) → Reaches bytes at k
+unfolding Reaches
 reach-is zero bytes at inside h each = tt
 reach-is (suc zero) bytes at inside h each = (inside, rw (split-from bytes at inside) at (each 0 h), tt)
 reach-is (suc (suc k)) bytes at inside h each =
@@ -131,3 +132,27 @@ reach-is (suc (suc k)) bytes at inside h each =
     λ i (b : i < length (split (drop (e + 1) bytes))). rw next at (each (suc i) (rw next (omega arith))) in
     let first : isSyllable (part bytes at e) ≡ true = rw next at (each 0 (rw next (omega arith))) in
     (inside, first, reach-is (suc k) bytes (e + 1) (omega arith) m behind)
+
+-- a step of a walk that has n syllables left
+module _ (bytes : List ℕ) (at n : ℕ) (left : 0 < n) where
+  one-left : n ≡ suc (n - 1)
+  one-left = omega arith
+
+  pub row-next : syllablesFrom bytes at n ≡ part bytes at (syllableEnd bytes at) ∷ syllablesFrom bytes (syllableEnd bytes at + 1) (n - 1)
+  row-next = ap (syllablesFrom bytes at) one-left ∙ (unfold syllablesFrom in refl)
+
+  module _ (reaches : Reaches bytes at n) where
+    step : Reaches bytes at (suc (n - 1))
+    step = subst (Reaches bytes at) one-left reaches
+
+    pub reach-inside : at ≤ length bytes
+    unfolding Reaches
+    reach-inside = step .0
+
+    pub reach-syllable : isSyllable (part bytes at (syllableEnd bytes at)) ≡ true
+    unfolding Reaches
+    reach-syllable = step .1
+
+    pub reach-next : Reaches bytes (syllableEnd bytes at + 1) (n - 1)
+    unfolding Reaches
+    reach-next = step .2

@@ -38,7 +38,7 @@ syllablesFrom bytes at zero = []
 syllablesFrom bytes at (suc n) = part bytes at (syllableEnd bytes at) ∷ syllablesFrom bytes (syllableEnd bytes at + 1) n
 
 -- there are n syllables from a place on, each well formed, and each starts within the name
-abbrev pub Reaches : List ℕ → ℕ → ℕ → Type 0
+unfoldable pub Reaches : List ℕ → ℕ → ℕ → Type 0
 Reaches bytes at zero = Unit
 Reaches bytes at (suc n) =
     (at ≤ length bytes) × (isSyllable (part bytes at (syllableEnd bytes at)) ≡ true) × Reaches bytes (syllableEnd bytes at + 1) n

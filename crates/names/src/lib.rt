@@ -54,10 +54,11 @@ pub fn is_syllable(name: &[u8], from: usize, to: usize) -> bool
     requires { ⌜ (from ≤ to) × (to ≤ length (now name)) ⌝ }
     ensures { λ r. ⌜ r ≡ isSyllable (part (now (name .entry)) from to) ⌝ }
 {
-    if to == from {
+    let size = to - from;
+    if size < 1 {
         return false;
     }
-    if 14 < to - from {
+    if 14 < size {
         return false;
     }
     let mut i = from;

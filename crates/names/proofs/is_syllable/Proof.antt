@@ -21,8 +21,8 @@ module _ (name : List ℕ) (from to : ℕ) (l : from ≤ to) (h : to ≤ length 
   size : length (part name from to) ≡ to - from
   size = length-part name from to l h
 
-  nothing : to ≡ from → false ≡ isSyllable (part name from to)
-  nothing e = sym (syllable-none (part name from to) (omega (arith, size)))
+  nothing : to - from < 1 → false ≡ isSyllable (part name from to)
+  nothing m = sym (syllable-none (part name from to) (omega (arith, size)))
 
   too-long : 14 < to - from → false ≡ isSyllable (part name from to)
   too-long m = sym (syllable-long (part name from to) (omega (arith, size)))
@@ -45,7 +45,7 @@ module _ (name : List ℕ) (from to : ℕ) (l : from ≤ to) (h : to ≤ length 
         let q : i + 1 - from ≡ i - from + 1 = omega arith in
         rw q (every-next (i - from) (isPlain (part name from to)) e (rw (byte, ne-eqb (getD name i 0) 0 z, ne-eqb (getD name i 0) 47 s)))
 
-  passes : (i : ℕ) → (to ≡ from → ⊥) → to - from ≤ 14 → i ≤ to → to ≤ i → every (i - from) (isPlain (part name from to)) ≡ true → true ≡ isSyllable (part name from to)
+  passes : (i : ℕ) → 1 ≤ to - from → to - from ≤ 14 → i ≤ to → to ≤ i → every (i - from) (isPlain (part name from to)) ≡ true → true ≡ isSyllable (part name from to)
   passes i some few m n e =
       let z : i - from ≡ length (part name from to) = omega (arith, size) in
       sym (syllable-yes (part name from to) (omega (arith, size)) (omega (arith, size)) (rw z at e))
@@ -57,19 +57,19 @@ none-yet name from to =
     rw z
 
 abbrev Inv-loop : tie.InvT-loop
-Inv-loop name from to i₀ i = (from ≤ i) × (i ≤ to) × (every (i - from) (isPlain (part name from to)) ≡ true)
+Inv-loop name from to size i₀ i = (from ≤ i) × (i ≤ to) × (every (i - from) (isPlain (part name from to)) ≡ true)
 
 abbrev μ-loop : tie.MeasureT-loop
-μ-loop name from to i₀ i = to - i
+μ-loop name from to size i₀ i = to - i
+
+sub-size : tie.Need-sub-size Inv-loop μ-loop
+sub-size c = search needs
 
 returns : tie.Need-returns Inv-loop μ-loop
-returns c = search (nothing, needs)
-
-sub-if2 : tie.Need-sub-if2 Inv-loop μ-loop
-sub-if2 c = search needs
+returns c = nothing _ _ _ (omega arith) (omega arith) (omega arith)
 
 returns-2 : tie.Need-returns-2 Inv-loop μ-loop
-returns-2 c = search too-long
+returns-2 c = too-long _ _ _ (omega arith) (omega arith) (omega arith)
 
 loop-holds : tie.Need-loop-holds Inv-loop μ-loop
 loop-holds c = (search needs, search needs, search none-yet)
@@ -104,8 +104,8 @@ is-syllable-spec =
     (tie.spec
     Inv-loop
     μ-loop
+    sub-size
     returns
-    sub-if2
     returns-2
     loop-holds
     shared-slice-read-if3
