@@ -1,0 +1,1 @@
+// Names looked up, from directory to directory.
