@@ -1,0 +1,2 @@
+pub mod AfterFile
+pub mod Records
