@@ -6,3 +6,5 @@ pub mod WellFacts
 pub mod Seen
 pub mod RuleLoops
 pub mod Rules
+pub mod Slots
+pub mod RecordRules

@@ -1,20 +1,27 @@
 // Whether four lent tables are a sound store, decided on any bytes (01, "A store is sound when all of these hold").
 use meaning::FileNo;
+use names::is_blank;
+use names::is_syllable;
+use names::record_file;
 use records::four_at;
 use records::one_at;
 use records::two_at;
 use records::zeros_at;
+use tables::find_block;
 ghost use mathlib.Core.Path.{_≡_};
 ghost use mathlib.Core.Bool.{true};
 ghost use Prim.Native.Nat.{suc, _+_, _*_, _≤_, _<_};
 ghost use lib.ListN.{length};
 ghost use Rattle.records.specs.Rows.{every};
 ghost use Rattle.records.specs.Numbers.{zeros};
+ghost use Rattle.meaning.specs.Name.{nameEnd, isWritten, same, entryIn, entryAt};
 ghost use Rattle.meaning.specs.Store.{inUse, isDirectory};
 ghost use Rattle.meaning.specs.Tables.{tables, blockCount, fileCount, channelCount, lengthAt};
-ghost use Rattle.meaning.specs.Sound.{lengthsAgree, blockSound, placedOnce, fileSound, filesSound, channelSound, channelsSound};
-ghost use Rattle.soundness.specs.Rules.{countsTo, directoryForm, placeCount, placedBelow};
+ghost use Rattle.meaning.specs.Sound.{lengthsAgree, blockSound, placedOnce, fileSound, filesSound, channelSound, channelsSound, recordSound};
+ghost use Rattle.names.specs.RecordNames.{recordFrom};
+ghost use Rattle.soundness.specs.Rules.{countsTo, directoryForm, placeCount, placedBelow, deeperThan};
 ghost use Rattle.soundness.specs.Seen.{filesStore, channelsStore, recordTables};
+ghost use Rattle.soundness.specs.Slots.{Starts, slot};
 
 // Whether f is the number of a file in use.
 pub fn in_use(file_records: &[u8], f: FileNo) -> bool
@@ -271,4 +278,103 @@ fn lengths_agree(
         return false;
     }
     channel_records.len() == 8 * c
+}
+
+// The blocks of the first n places of file f, in a row.
+fn find_blocks(block_records: &[u8], f: FileNo, n: usize) -> [u16; 64]
+    requires { ⌜ (n ≤ 64) × (blockCount (now «block_records») ≤ 128) ⌝ }
+    ensures { λ r. ⌜ Starts (now («block_records» .entry)) (f .0) n r ⌝ }
+{
+    let mut starts: [u16; 64] = [0; 64];
+    let mut p: usize = 0;
+    while p < n {
+        starts[p] = find_block(block_records, f, p as u16) as u16;
+        p += 1;
+    }
+    starts
+}
+
+// Where record i of a directory is in the block table, by the row of its blocks.
+fn slot_at(starts: &[u16; 64], i: usize) -> usize
+    requires { ⌜ (i < 2048) × (slot (now starts) i < 4096) ⌝ }
+    ensures { λ r. ⌜ r ≡ slot (now (starts .entry)) i ⌝ }
+{
+    32 * (starts[i / 32] as usize) + i % 32
+}
+
+// Where the name of the record that starts at a place ends.
+fn name_end(table: &[u8], at: usize) -> usize
+    requires { ⌜ at + 16 ≤ length (now table) ⌝ }
+    ensures { λ r. ⌜ r ≡ nameEnd (recordFrom (now (table .entry)) at) ⌝ }
+{
+    let mut i: usize = 0;
+    while i < 14 {
+        if one_at(table, at + 2 + i) == 0 {
+            return i;
+        }
+        i += 1;
+    }
+    14
+}
+
+// Whether the record that starts at a place has a syllable as its name, and zeros behind it.
+fn is_written(table: &[u8], at: usize) -> bool
+    requires { ⌜ at + 16 ≤ length (now table) ⌝ }
+    ensures { λ r. ⌜ r ≡ isWritten (recordFrom (now (table .entry)) at) ⌝ }
+{
+    let end = name_end(table, at);
+    if !is_syllable(table, at + 2, at + 2 + end) {
+        return false;
+    }
+    zeros_at(table, at + 2 + end, 14 - end)
+}
+
+// Whether the records that start at two places have the same name.
+fn same_name(table: &[u8], at: usize, other: usize) -> bool
+    requires { ⌜ (at + 16 ≤ length (now table)) × (other + 16 ≤ length (now table)) ⌝ }
+    ensures { λ r. ⌜ r ≡ same (entryIn (recordFrom (now (table .entry)) at) .name) (entryIn (recordFrom (now (table .entry)) other) .name) ⌝ }
+{
+    let mut i: usize = 0;
+    while i < 14 {
+        let b = one_at(table, at + 2 + i);
+        if b != one_at(table, other + 2 + i) {
+            return false;
+        }
+        if b == 0 {
+            return true;
+        }
+        i += 1;
+    }
+    true
+}
+
+// Whether record k of the block table is blank, or names a file in use, not the root, by a syllable.
+fn record_sound(blocks: &[u8], file_records: &[u8], k: usize) -> bool
+    requires { ⌜ 16 * k + 16 ≤ length (now blocks) ⌝ }
+    ensures { λ r. ⌜ r ≡ recordSound (filesStore (now («file_records» .entry))) (now (blocks .entry)) k ⌝ }
+{
+    let f = record_file(blocks, 16 * k);
+    if f.0 == 0 {
+        return is_blank(blocks, 16 * k);
+    }
+    if f.0 == 1 {
+        return false;
+    }
+    if !in_use(file_records, f) {
+        return false;
+    }
+    is_written(blocks, 16 * k)
+}
+
+// Whether what record k of the block table names, if it is a directory, is one deeper than a directory of some depth.
+fn one_deeper(blocks: &[u8], file_records: &[u8], depth: u8, k: usize) -> bool
+    requires { ⌜ 16 * k + 16 ≤ length (now blocks) ⌝ }
+    ensures { λ r. ⌜ r ≡ deeperThan (filesStore (now («file_records» .entry))) depth (entryAt (now (blocks .entry)) k .file) ⌝ }
+{
+    let f = record_file(blocks, 16 * k);
+    if !is_directory(file_records, f) {
+        return true;
+    }
+    let its = one_at(file_records, 8 * (f.0 as usize - 1) + 1);
+    its as u16 == depth as u16 + 1
 }
