@@ -3,3 +3,8 @@ pub mod Well
 pub mod FormLaws
 pub mod WellLaws
 pub mod WellFacts
+pub mod Seen
+pub mod RuleLoops
+pub mod Rules
+pub mod Slots
+pub mod RecordRules

@@ -1,0 +1,50 @@
+-- Rules as the code meets them, of the numbers that it has read.
+use Prim.Native.Nat.{ℕ, _+_, _%_}
+use mathlib.Core.List.{List}
+use mathlib.Core.Bool.{Bool, not, _&&_, _||_}
+use lib.Dec.{leb, eqb}
+use Rattle.records.specs.Rows.{agree, every, howMany}
+use Rattle.meaning.specs.File.{longest}
+use Rattle.meaning.specs.Name.{entryAt, isBlank, same}
+use Rattle.meaning.specs.Store.{Store, isDirectory}
+use Rattle.meaning.specs.Tables.{blockCount, holds}
+use Rattle.meaning.specs.Sound.{between, recordSound}
+use Rattle.soundness.specs.Slots.{slot}
+
+-- file record r may be a directory of a depth and a size: the first, and no other, has depth 0
+unfoldable pub directoryForm : ℕ → ℕ → ℕ → Bool
+directoryForm r depth size = leb depth 7 && leb size longest && eqb (size % 16) 0 && agree (eqb r 0) (eqb depth 0)
+
+-- how many blocks are place i of file f
+unfoldable pub placeCount : List ℕ → ℕ → ℕ → ℕ
+placeCount records f i = howMany (blockCount records) (λ b. holds records f i b)
+
+-- each of the first n places of file f has exactly one block
+unfoldable pub placedBelow : List ℕ → ℕ → ℕ → Bool
+placedBelow records f n = every n (λ i. eqb (placeCount records f i) 1)
+
+-- a count is from 1 up to a most
+unfoldable pub countsTo : ℕ → ℕ → Bool
+countsTo n most = between 1 most n
+
+-- a directory f that a record of a directory of a depth names is one deeper
+unfoldable pub deeperThan : Store → ℕ → ℕ → Bool
+deeperThan s depth f = not (isDirectory s f) || eqb (s .file f .depth) (depth + 1)
+
+-- ---- of a directory whose records lie in the block table, by the row of its blocks
+
+-- no record before record i has its name, if it has one
+unfoldable pub newAt : List ℕ → List ℕ → ℕ → Bool
+newAt blocks starts i =
+    isBlank blocks (slot starts i)
+    || every i (λ j. not (same (entryAt blocks (slot starts j) .name) (entryAt blocks (slot starts i) .name)))
+
+-- every record is sound, every name new, and every directory that is named one deeper
+unfoldable pub recordsAt : Store → List ℕ → List ℕ → ℕ → Bool
+recordsAt s blocks starts n = every n (λ i. recordSound s blocks (slot starts i))
+
+unfoldable pub namesAt : List ℕ → List ℕ → ℕ → Bool
+namesAt blocks starts n = every n (newAt blocks starts)
+
+unfoldable pub deeperAt : Store → List ℕ → List ℕ → ℕ → ℕ → Bool
+deeperAt s blocks starts depth n = every n (λ i. deeperThan s depth (entryAt blocks (slot starts i) .file))
