@@ -21,25 +21,27 @@ use Rattle.names.specs.ByteLaws.{is-same}
 use Rattle.names.specs.ReadLaws.{read}
 use Rattle.lookup.specs.Walk.{named-last}
 use Rattle.soundness.specs.Well.{NamingRecord, Well}
-use Rattle.soundness.specs.WellFacts.{directory-length}
+use Rattle.soundness.specs.WellFacts.{blank-file, directory-length}
 use Rattle.trees.specs.Records.{named-within, named-has, named-first, in-found, in-some}
 use Rattle.trees.specs.Entries.{not-blank, only, found-record, no-record, past-blank}
 
 -- ---- a name in its directory
 
--- its directory is there; its record is or goes at recordFor, and no other record has the name
+-- its directory is there, a row of whole records; its record is or goes at recordFor, and no other record has the name;
+-- that record names what the name stands for, 0 where it stands for nothing
 pub record Place (s : Store) (n : List (List ℕ)) : Type 0 where
   pub spelled : isSyllable (last n) ≡ true
   pub directory : isDirectory s (parent s n) ≡ true
+  pub whole : length (s .file (parent s n) .bytes) ≡ 16 * recordCount (s .file (parent s n) .bytes)
+  pub file : entryAt (s .file (parent s n) .bytes) (recordFor s n) .file ≡ named s n
   pub within : recordFor s n ≤ recordCount (s .file (parent s n) .bytes)
   pub others : (j : ℕ) → j < recordCount (s .file (parent s n) .bytes) → j ≢ recordFor s n
       → entryAt (s .file (parent s n) .bytes) j .name ≢ last n
 
--- the name stands for a file: its record has the name and that file, which is in use and not the root
+-- the name stands for a file, in use and not the root: its record has the name
 pub record Standing (s : Store) (n : List (List ℕ)) : Type 0 where
   pub place : Place s n
   pub there : recordFor s n < recordCount (s .file (parent s n) .bytes)
-  pub file : entryAt (s .file (parent s n) .bytes) (recordFor s n) .file ≡ named s n
   pub name : entryAt (s .file (parent s n) .bytes) (recordFor s n) .name ≡ last n
   pub written : isBlank (s .file (parent s n) .bytes) (recordFor s n) ≡ false
   pub in-use : inUse s (named s n) ≡ true
@@ -48,6 +50,7 @@ pub record Standing (s : Store) (n : List (List ℕ)) : Type 0 where
 -- the name stands for nothing: the record where it goes is blank, or lies past the end
 pub record Vacant (s : Store) (n : List (List ℕ)) : Type 0 where
   pub place : Place s n
+  pub none : named s n ≡ 0
   pub blank : isBlank (s .file (parent s n) .bytes) (recordFor s n) ≡ true
   pub fresh : (j : ℕ) → j < recordCount (s .file (parent s n) .bytes) → entryAt (s .file (parent s n) .bytes) j .name ≢ last n
 
@@ -122,11 +125,12 @@ module _ (s : Store) (w : Well s) (name : List (List ℕ)) (spelled : isSyllable
           place = record {
             spelled = spelled;
             directory = its-directory;
+            whole = directory-length s w (parent s name) its-directory;
+            file = rw at-named is;
             within = rw at-named (omega (arith, found));
             others = rw at-named (λ j h n. only s w (parent s name) its-directory (last name) spelled (recordNamed dir (last name)) j found h (λ e. n (sym e)) has);
           };
           there = rw at-named found;
-          file = rw at-named is;
           name = rw at-named has;
           written = rw at-named (not-blank dir (recordNamed dir (last name)) (last name) spelled has);
           in-use = rw is at (r .in-use);
@@ -174,9 +178,12 @@ module _ (s : Store) (w : Well s) (name : List (List ℕ)) (spelled : isSyllable
           place = record {
             spelled = spelled;
             directory = new-directory;
+            whole = directory-length s w (parent s name) new-directory;
+            file = rw at-new (blank-file dir (recordForNew dir) new-blank ∙ sym (missing-none s name gone));
             within = rw at-new new-within;
             others = λ j h n. none-has j h;
           };
+          none = missing-none s name gone;
           blank = rw at-new new-blank;
           fresh = none-has;
         }
