@@ -10,7 +10,7 @@ use lib.Dec.{ltb}
 use borrow.Author.Tests.{lt-ltb, le-ltb, not-true, not-false}
 use Rattle.records.specs.Rows.{pick, lowest}
 use Rattle.records.specs.RowLaws.{lowest-cong, lowest-within}
-use Rattle.meaning.specs.Name.{Entry, same, entryIn, entryAt, recordCount, recordNamed, inDirectory}
+use Rattle.meaning.specs.Name.{Entry, same, entryIn, entryAt, isBlank, recordCount, recordNamed, recordForNew, inDirectory}
 use Rattle.meaning.specs.Store.{Store, isDirectory, within}
 use Rattle.meaning.specs.Tables.{Tables, tables, storeOf, fileOf, fileCount, fileLength, lengthAt, blockOf}
 use Rattle.layout.specs.Layout.{length-file}
@@ -20,8 +20,8 @@ use Rattle.tables.specs.StoreLaws.{file-length}
 use Rattle.names.specs.RecordNames.{recordFrom}
 use Rattle.names.specs.Syllables.{part, syllableEnd, syllablesFrom, Reaches}
 use Rattle.names.specs.SyllableLaws.{row-next, reach-inside, reach-next, end-low, end-within}
-use Rattle.directories.specs.Places.{recordPlace, entry-there}
-use Rattle.directories.specs.Find.{Lies, namedAt, placeLowest}
+use Rattle.directories.specs.Places.{recordPlace, entry-there, blank-there}
+use Rattle.directories.specs.Find.{Lies, namedAt, blankAt, placeLowest}
 use Rattle.lookup.specs.Walk.{walk}
 use Rattle.lookup.specs.Filed.{filed, Shelves, directory-here}
 
@@ -64,8 +64,17 @@ module _ (blocks records files : List ℕ) (d : ℕ) where
           let l = lies-here count counted in
           (omega (arith, l .there (i / 32) (omega arith), l .table), omega (arith, l .few))
 
+      -- the first blank record
+      pub is-blank : (i : ℕ) → i ≡ placeLowest (blankAt blocks) records d count → i ≡ recordForNew (filed blocks records files .file d .bytes)
+      unfolding placeLowest blankAt recordForNew
+      is-blank i found =
+          found
+          ∙ lowest-cong count (λ k. blankAt blocks (recordPlace records d k)) (λ k. isBlank (filed blocks records files .file d .bytes) k)
+          (λ k h. sym (blank-there (tables blocks records files []) d k (record-in k h)))
+          ∙ ap (λ (n : ℕ). lowest n (λ k. isBlank (filed blocks records files .file d .bytes) k)) (sym counted-is)
+
       module _ (syllable : List ℕ) (i : ℕ) (found : i ≡ placeLowest (namedAt blocks syllable) records d count) where
-        is-named : i ≡ recordNamed (filed blocks records files .file d .bytes) syllable
+        pub is-named : i ≡ recordNamed (filed blocks records files .file d .bytes) syllable
         unfolding placeLowest namedAt recordNamed
         is-named =
             found
