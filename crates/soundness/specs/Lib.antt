@@ -8,3 +8,4 @@ pub mod RuleLoops
 pub mod Rules
 pub mod Slots
 pub mod RecordRules
+pub mod DirectoryRules

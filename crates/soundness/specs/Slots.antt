@@ -39,7 +39,7 @@ module _ (blocks records files : List ℕ) (placed : Placed blocks records files
   abbrev dir : List ℕ
   dir = directoriesStore blocks records files .file (suc r) .bytes
 
-  dir-length : length dir ≡ lengthAt files r
+  pub dir-length : length dir ≡ lengthAt files r
   unfolding storeOf fileOf
   dir-length = length-listOf (lengthAt files r) (byteOf (tables blocks records files []) (suc r))
 
@@ -93,3 +93,10 @@ within-placed blocks records files placed r h starts found =
       small = omega (arith, placed .whole, placed .few-blocks);
       inside = slot-inside blocks records files placed r starts found;
     }
+
+module _ (blocks starts : List ℕ) (n : ℕ) (w : Within blocks starts n) (i : ℕ) (h : i < n) where
+  pub slot-small : (i < 2048) × (slot starts i < 4096)
+  slot-small = omega (arith, w .few, w .small, w .inside i h)
+
+  pub slot-fits : (k : ℕ) → k ≡ slot starts i → 16 * k + 16 ≤ length blocks
+  slot-fits k e = omega (arith, w .inside i h)
