@@ -51,7 +51,7 @@ module _ (blocks records files : List ℕ) where
     n = lengthAt files r / 16
 
     pub count-there : recordCount dir ≡ n
-    count-there = ap (λ m. m / 16) (dir-length blocks records files placed r starts found)
+    count-there = ap (λ m. m / 16) (dir-length blocks records files r)
 
     entry-there : (i : ℕ) → i < n → entryAt dir i ≡ entryAt blocks (slot starts i)
     entry-there i h = slot-entry blocks records files placed r starts found i h

@@ -1,22 +1,15 @@
-use Prim.Native.Nat.{ℕ, suc, _+_, _*_, _/_, _≤_, _<_}
-use mathlib.Core.Path.{_≡_, refl, sym, ap, _∙_}
+use Prim.Native.Nat.{ℕ, suc, _+_, _*_, _/_, _<_}
+use mathlib.Core.Path.{_≡_, refl, sym, _∙_}
 use mathlib.Core.List.{List}
-use mathlib.Core.Bool.{Bool, true, false, not, _&&_, _||_}
-use native.Mathlib.Numerals.{add-one}
-use native.Mathlib.Omega.{arith}
-use borrow.Author.Tests.{eq-eqb, ne-eqb, not-true, not-false}
-use lib.Dec.{eqb}
+use mathlib.Core.Bool.{Bool, true, false, not, _&&_}
+use borrow.Author.Tests.{ne-eqb, not-true, not-false}
 use Rattle.records.specs.Numbers.{one, four}
-use Rattle.records.specs.Rows.{every}
-use Rattle.records.specs.Tests.{and-false}
-use Rattle.meaning.specs.File.{needed}
-use Rattle.meaning.specs.Name.{recordCount}
-use Rattle.meaning.specs.Store.{isDirectory}
-use Rattle.meaning.specs.Tables.{blockCount, fileCount, kindAt, depthAt, lengthAt}
+use Rattle.meaning.specs.Tables.{fileCount, depthAt}
 use Rattle.soundness.specs.Rules.{recordsAt, namesAt, deeperAt}
 use Rattle.soundness.specs.Seen.{filesStore}
-use Rattle.soundness.specs.Slots.{directoriesStore, Starts, Placed, Within, within-placed}
-use Rattle.soundness.specs.DirectoryRules.{directoryRule, kind-directory, records-there, names-there, deepers-there}
+use Rattle.soundness.specs.Slots.{directoriesStore, Starts, Placed}
+use Rattle.soundness.specs.DirectoryRules.{directoryRule, records-there, names-there, deepers-there}
+use Rattle.soundness.specs.DirectoryReads.{kind-read, size-read, few-places, starts-read, within-read}
 use borrow.Author.Needs.{needs}
 use Rattle.soundness.proofs.directory_sound.Statement.{statement}
 use Rattle.soundness.proofs.directory_sound.Tie as tie
@@ -25,55 +18,35 @@ module _ (blocks records files : List ℕ) (placed : Placed blocks records files
   abbrev verdict : Bool
   verdict = directoryRule (directoriesStore blocks records files) (suc r)
 
-  is-kind : (kind : ℕ) → kind ≡ one files (8 * r) → isDirectory (directoriesStore blocks records files) (suc r) ≡ eqb kind 2
-  unfolding kindAt
-  is-kind kind k = kind-directory blocks records files r h ∙ ap (λ n. eqb n 2) (sym k)
-
   no-directory : (kind : ℕ) → kind ≡ one files (8 * r) → (kind ≡ 2 → ⊥) → true ≡ verdict
   unfolding directoryRule
-  no-directory kind k d = rw (is-kind kind k, ne-eqb kind 2 d)
+  no-directory kind k d = rw (kind-read blocks records files placed r h kind k, ne-eqb kind 2 d)
 
-  module _ (size : ℕ) (sized : size ≡ four files (8 * r + 4)) where
-    short : size ≤ 32768
-    unfolding lengthAt
-    short = omega (arith, placed .short r h)
+  module _ (size : ℕ) (sized : size ≡ four files (8 * r + 4)) (starts : List ℕ) (found : Starts records (r + 1) ((size + 511) / 512) starts) (kind : ℕ) (k : kind ≡ one files (8 * r)) (is : kind ≡ 2) where
+    rules-are : verdict ≡ recordsAt (filesStore files) blocks starts (size / 16) && namesAt blocks starts (size / 16) && deeperAt (filesStore files) blocks starts (one files (8 * r + 1)) (size / 16)
+    unfolding directoryRule depthAt
+    rules-are =
+        let f = starts-read blocks records files placed r h size sized starts found in
+        rw (
+          kind-read blocks records files placed r h kind k,
+          is,
+          records-there blocks records files placed r starts f,
+          names-there blocks records files placed r starts f,
+          deepers-there blocks records files placed r starts f,
+          size-read blocks records files placed r h size sized,
+        )
 
-    few : ((size + 511) / 512 ≤ 64) × (blockCount records ≤ 128)
-    few = omega (arith, short, placed .few-blocks)
+    module _ (records-ok : Bool) (a : records-ok ≡ recordsAt (filesStore files) blocks starts (size / 16)) where
+      bad-record : not records-ok ≡ true → false ≡ verdict
+      bad-record n = sym (rules-are ∙ rw (← a, not-true records-ok n))
 
-    module _ (starts : List ℕ) (found : Starts records (r + 1) ((size + 511) / 512) starts) where
-      found′ : Starts records (suc r) (needed (lengthAt files r)) starts
-      unfolding lengthAt
-      found′ = rw (← sized, ← add-one r) found
+      module _ (m : not records-ok ≡ false) (names-ok : Bool) (b : names-ok ≡ namesAt blocks starts (size / 16)) where
+        bad-name : not names-ok ≡ true → false ≡ verdict
+        bad-name n = sym (rules-are ∙ rw (← a, not-false records-ok m, ← b, not-true names-ok n))
 
-      within : Within blocks starts (size / 16)
-      unfolding lengthAt
-      within = rw sized (within-placed blocks records files placed r h starts found′)
-
-      module _ (kind : ℕ) (k : kind ≡ one files (8 * r)) (is : kind ≡ 2) where
-        rules-are : verdict ≡ recordsAt (filesStore files) blocks starts (size / 16) && namesAt blocks starts (size / 16) && deeperAt (filesStore files) blocks starts (one files (8 * r + 1)) (size / 16)
-        unfolding directoryRule lengthAt depthAt
-        rules-are =
-            rw (
-              is-kind kind k,
-              is,
-              records-there blocks records files placed r starts found′,
-              names-there blocks records files placed r starts found′,
-              deepers-there blocks records files placed r starts found′,
-              sized,
-            )
-
-        module _ (records-ok : Bool) (a : records-ok ≡ recordsAt (filesStore files) blocks starts (size / 16)) where
-          bad-record : not records-ok ≡ true → false ≡ verdict
-          bad-record n = sym (rules-are ∙ rw (← a, not-true records-ok n))
-
-          module _ (m : not records-ok ≡ false) (names-ok : Bool) (b : names-ok ≡ namesAt blocks starts (size / 16)) where
-            bad-name : not names-ok ≡ true → false ≡ verdict
-            bad-name n = sym (rules-are ∙ rw (← a, not-false records-ok m, ← b, not-true names-ok n))
-
-            last : not names-ok ≡ false → (depth : ℕ) → depth ≡ one files (8 * r + 1) → (deeper-ok : Bool) →
-                deeper-ok ≡ deeperAt (filesStore files) blocks starts depth (size / 16) → deeper-ok ≡ verdict
-            last n depth d deeper-ok e = sym (rules-are ∙ rw (← a, not-false records-ok m, ← b, not-false names-ok n, ← d, ← e))
+        last : not names-ok ≡ false → (depth : ℕ) → depth ≡ one files (8 * r + 1) → (deeper-ok : Bool) →
+            deeper-ok ≡ deeperAt (filesStore files) blocks starts depth (size / 16) → deeper-ok ≡ verdict
+        last n depth d deeper-ok e = sym (rules-are ∙ rw (← a, not-false records-ok m, ← b, not-false names-ok n, ← d, ← e))
 
 mul-one-at : tie.Need-mul-one-at
 mul-one-at c = search needs
@@ -117,22 +90,22 @@ add-find-blocks c = search needs
 find-blocks-requires : tie.Need-find-blocks-requires
 find-blocks-requires c κs =
     let s = c .before .before .before .before .before .before .before in
-    few _ _ _ (s .pre .0) _ (s .pre .1) _ (c .four-at .ensures)
+    few-places _ _ _ (s .pre .0) _ (s .pre .1) _ (c .four-at .ensures)
 
 records-sound-requires : tie.Need-records-sound-requires
-records-sound-requires c κs = search within
+records-sound-requires c κs = search within-read
 
 returns-2 : tie.Need-returns-2
 returns-2 c = search bad-record
 
 names-new-requires : tie.Need-names-new-requires
-names-new-requires c κs = search within
+names-new-requires c κs = search within-read
 
 returns-3 : tie.Need-returns-3
 returns-3 c = search bad-name
 
 all-deeper-requires : tie.Need-all-deeper-requires
-all-deeper-requires c κs = search within
+all-deeper-requires c κs = search within-read
 
 returns-4 : tie.Need-returns-4
 returns-4 c = search last
