@@ -1,15 +1,15 @@
 -- A record that was written, read back: the same record gives what was written, another gives what it gave before.
-use Prim.Native.Nat.{ℕ, _+_, _*_, _/_, _≤_, _<_}
-use mathlib.Core.Path.{_≡_, refl, ap₂, _∙_}
+use Prim.Native.Nat.{ℕ, _+_, _*_, _<_}
+use mathlib.Core.Path.{_≡_, refl, _∙_}
 use mathlib.Core.Logic.{_≢_}
 use mathlib.Core.List.{List, [], _∷_, _++_}
 use mathlib.Core.Bool.{true, _&&_}
 use native.Mathlib.Omega.{arith}
-use lib.ListN.{length, length-append}
+use lib.ListN.{length}
 use lib.Dec.{eqb}
 use Rattle.records.specs.Rows.{every}
 use Rattle.records.specs.Numbers.{one, two, four, twoBytes, fourBytes, zeros, withRecord}
-use Rattle.records.specs.NumberLaws.{length-twoBytes, length-fourBytes, two-of, four-of, two-first, two-second, four-second}
+use Rattle.records.specs.NumberLaws.{length-twoBytes, two-of, four-of, two-first, two-second, four-second}
 use Rattle.records.specs.RecordLaws.{one-written, two-written, four-written, zeros-written, one-kept, two-kept, four-kept, zeros-kept}
 use Rattle.meaning.specs.Tables.{blockCount, owner, place, blockRecord, holds, fileCount, kindAt, depthAt, lengthAt, fileRecord, channelCount, channelFileAt, positionAt, channelRecord}
 

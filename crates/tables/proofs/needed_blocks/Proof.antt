@@ -2,7 +2,6 @@
 use Prim.Native.Nat.{ℕ, _+_, _-_, _*_, _/_, _≤_}
 use mathlib.Core.Path.{_≡_, refl, sym}
 use mathlib.Core.List.{List}
-use native.Mathlib.Omega.{arith}
 use Rattle.records.specs.Rows.{sum as total}
 use Rattle.records.specs.Numbers.{four}
 use Rattle.records.specs.LoopLaws.{sum-start, sum-step, summed-all}

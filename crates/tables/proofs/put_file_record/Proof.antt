@@ -1,7 +1,7 @@
 -- The parts of the record, one right after the other, are the record.
 use Prim.Native.Nat.{ℕ, _+_, _-_, _*_}
 use mathlib.Core.Path.{_≡_}
-use mathlib.Core.List.{List, [], _∷_, _++_}
+use mathlib.Core.List.{List, [], _∷_}
 use native.Mathlib.Omega.{arith}
 use lib.Seq.{sets}
 use Rattle.records.specs.Numbers.{twoBytes, fourBytes, withRecord}
@@ -54,7 +54,12 @@ same-length : tie.Need-same-length
 same-length c = search needs
 
 returns : tie.Need-returns
-returns c = search in-parts
+returns c =
+    let size = c .before .before in
+    let gap = size .before .before .before .before in
+    let depth = gap .before .before .before .before in
+    let kind = depth .before .before .before .before in
+    in-parts _ _ _ _ _ _ _ _ _ (kind .put-one .ensures) (depth .put-one2 .ensures) (gap .put-two .ensures) (size .put-four .ensures)
 
 pub put-file-record-spec : {M : Type 1} → statement M
 put-file-record-spec =
