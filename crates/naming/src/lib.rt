@@ -6,26 +6,19 @@ use lookup::lookup;
 use lookup::record_count;
 use meaning::FileNo;
 use meaning::Report;
+use names::NameForm;
 use names::last_start;
 use names::name_form;
-use names::NameForm;
+use soundness::is_sound;
 ghost use mathlib.Core.Path.{_≡_};
 ghost use mathlib.Core.Bool.{true};
 ghost use Prim.Native.Nat.{_≤_, _<_};
 ghost use Rattle.meaning.specs.Name.{syllables};
-ghost use Rattle.meaning.specs.Tables.{tables};
-ghost use Rattle.meaning.specs.Sound.{sound};
 ghost use Rattle.meaning.specs.Run.{entered};
 ghost use Rattle.names.specs.FormLaws.{Counted};
 ghost use Rattle.lookup.specs.Filed.{filed, Shelves};
 ghost use Rattle.naming.specs.Judged.{OnName};
 ghost use Rattle.naming.specs.Located.{Locates, Recorded, InPlace};
-
-fn is_sound(blocks: &[u8], block_records: &[u8], file_records: &[u8], channel_records: &[u8]) -> bool
-    ensures { λ r. ⌜ r ≡ sound (tables (now (blocks .entry)) (now («block_records» .entry)) (now («file_records» .entry)) (now («channel_records» .entry))) ⌝ }
-{
-    blocks.len() < 3
-}
 
 // How many syllables a name has, or the refusal that comes before any other of a call on a name.
 pub enum Judged {
@@ -70,10 +63,29 @@ pub fn locate(
     ensures { λ r. ⌜ Locates (filed (now (blocks .entry)) (now («block_records» .entry)) (now («file_records» .entry))) (now (name .entry)) r ⌝ }
 {
     if k == 0 {
-        return Located { parent: FileNo(1), file: FileNo(1) };
+        return Located {
+            parent: FileNo(1),
+            file: FileNo(1),
+        };
     }
-    let parent = lookup(blocks, block_records, file_records, FileNo(1), name, 1, k - 1);
-    let file = look_in(blocks, block_records, file_records, parent, name, last_start(name), name.len());
+    let parent = lookup(
+        blocks,
+        block_records,
+        file_records,
+        FileNo(1),
+        name,
+        1,
+        k - 1,
+    );
+    let file = look_in(
+        blocks,
+        block_records,
+        file_records,
+        parent,
+        name,
+        last_start(name),
+        name.len(),
+    );
     Located { parent, file }
 }
 
@@ -93,5 +105,13 @@ pub fn record_for(
     if at.file.0 == 0 {
         return find_blank(blocks, block_records, d, count);
     }
-    find_named(blocks, block_records, d, count, name, last_start(name), name.len())
+    find_named(
+        blocks,
+        block_records,
+        d,
+        count,
+        name,
+        last_start(name),
+        name.len(),
+    )
 }

@@ -3,12 +3,12 @@ use meaning::ChannelNo;
 use meaning::FileNo;
 use meaning::Opened;
 use meaning::Report;
+use naming::Judged;
 use naming::judge_name;
 use naming::locate;
-use naming::Judged;
+use tables::ChannelRecord;
 use tables::find_channel;
 use tables::put_channel_record;
-use tables::ChannelRecord;
 ghost use mathlib.Core.Path.{_≡_};
 ghost use Rattle.meaning.specs.Run.{Keeps, Call, entered};
 ghost use Rattle.meaning.specs.Answers.{opened};
@@ -62,7 +62,14 @@ pub fn open(
     match decided {
         Opening::No(why) => Opened::Refused(why),
         Opening::Of(c, f) => {
-            put_channel_record(channel_records, c, ChannelRecord { file: f, position: 0 });
+            put_channel_record(
+                channel_records,
+                c,
+                ChannelRecord {
+                    file: f,
+                    position: 0,
+                },
+            );
             Opened::At(c)
         }
     }
