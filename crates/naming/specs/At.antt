@@ -12,15 +12,17 @@ use Rattle.meaning.specs.Name.{syllables}
 use Rattle.meaning.specs.Store.{Store, root, isDirectory, named, front}
 use Rattle.meaning.specs.Tables.{Tables, tables, storeOf}
 use Rattle.meaning.specs.Sound.{sound}
-use Rattle.meaning.specs.Result.{missing, nowhere}
+use Rattle.meaning.specs.Result.{Result, unless, withSyllables, missing, nowhere}
 use Rattle.meaning.specs.NameCalls.{parent}
 use Rattle.names.specs.FormLaws.{Counted}
 use Rattle.soundness.specs.Seen.{filesStore, isDirectory-seen}
 use Rattle.lookup.specs.Walk.{named-walk}
 use Rattle.lookup.specs.Filed.{filed, Shelves, shelves, walk-seen}
-use Rattle.naming.specs.Judged.{Spelled}
+use Rattle.naming.specs.Judged.{Spelled, OnName, onNameOf, spelled}
 use Rattle.naming.specs.Located.{Locates}
 use Rattle.naming.specs.declared.Located.{Located}
+use Rattle.naming.specs.declared.Judged.{Judged}
+use Rattle.naming.specs.declared.Judged.the-variants.{Syllables}
 
 -- the bytes spell a name of k syllables; x has the directory that it lies in and the file that it stands for
 pub record At (t : Tables) (bytes : List ℕ) (k : ℕ) (x : Located) : Type 0 where
@@ -82,3 +84,20 @@ module _ (t : Tables) (bytes : List ℕ) (k : ℕ) (x : Located) (a : At t bytes
   pub there : x .file .0 ≢ 0 → nowhere (storeOf t) (a .name) ≡ false
   unfolding nowhere
   there d = rw (not-missing d)
+
+  -- what follows on the name is what the call gives
+  pub follows : (rest : List (List ℕ) → Result) → rest (a .name) ≡ onNameOf t bytes rest
+  unfolding onNameOf unless withSyllables
+  follows rest = rw (a .ok, a .is)
+
+-- ---- the same, as the code has it: a name judged well written, then located
+
+module _ (b br fr cr bytes : List ℕ) (h : Judged) (on : OnName (tables b br fr cr) bytes h) (k : ℕ) (e : h ≡ Syllables k) where
+  pub located-shelves : Shelves b br fr
+  located-shelves = judged-shelves b br fr cr bytes k (spelled (tables b br fr cr) bytes h on k e)
+
+  pub located-counted : Counted (syllables bytes) k
+  located-counted = spelled (tables b br fr cr) bytes h on k e .counted
+
+  pub located-at : (x : Located) → Locates (filed b br fr) bytes x → At (tables b br fr cr) bytes k x
+  located-at x l = stands-at b br fr cr bytes k (spelled (tables b br fr cr) bytes h on k e) x l
