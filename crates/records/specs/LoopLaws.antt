@@ -5,8 +5,8 @@ use mathlib.Core.Logic.{⊎-elim}
 use mathlib.Core.Bool.{Bool, true, false, true≢false}
 use native.Mathlib.Numerals.{add-one}
 use native.Mathlib.Omega.{arith}
-use lib.Dec.{ltb}
-use borrow.Author.Tests.{lt-ltb, le-ltb}
+use lib.Dec.{ltb, eqb}
+use borrow.Author.Tests.{lt-ltb, le-ltb, eq-eqb, ne-eqb}
 use Rattle.records.specs.Rows.{tally, lowest, lowestFrom, every, howMany, sum}
 use Rattle.records.specs.Tests.{tested, lt-or-ge}
 use Rattle.records.specs.RowLaws.{search-hit, search-miss, search-end, every-all, howMany-mono, sum-constant, sum-term, lowest-hit, some-lowest}
@@ -94,3 +94,26 @@ module _ (g : ℕ → ℕ) where
   pub sum-step : (i : ℕ) → sum (i + 1) g ≡ sum i g + g i
   unfolding sum
   sum-step i = rw add-one
+
+-- ---- a test at i that compares a number v, which the loop has read, with the one that is wanted
+
+module _ (p : ℕ → Bool) (n i : ℕ) (so-far : lowest n p ≡ lowestFrom i (n - i) p) (inside : i < n) (v w : ℕ) (test : p i ≡ eqb v w) where
+  pub found-equal : v ≡ w → i ≡ lowest n p
+  found-equal e = search-found p n i so-far inside (test ∙ eq-eqb v w e)
+
+  pub passed-other : (v ≡ w → ⊥) → lowest n p ≡ lowestFrom (i + 1) (n - (i + 1)) p
+  passed-other d = search-passed p n i so-far inside (test ∙ ne-eqb v w d)
+
+module _ (p : ℕ → Bool) (i count next : ℕ) (so-far : count ≡ howMany i p) (v w : ℕ) (test : p i ≡ eqb v w) where
+  pub counted-equal : v ≡ w → next ≡ count + 1 → next ≡ howMany (i + 1) p
+  counted-equal e m = omega (arith, count-hit p i (test ∙ eq-eqb v w e))
+
+  pub skipped-other : (v ≡ w → ⊥) → next ≡ count → next ≡ howMany (i + 1) p
+  skipped-other d m = omega (arith, count-miss p i (test ∙ ne-eqb v w d))
+
+-- a count or a sum of the first i indices, of which there are n
+pub counted-all : (p : ℕ → Bool) (n i count : ℕ) → i ≤ n → n ≤ i → count ≡ howMany i p → count ≡ howMany n p
+counted-all p n i count l h so-far = let e : i ≡ n = omega arith in rw e at so-far
+
+pub summed-all : (g : ℕ → ℕ) (n i total : ℕ) → i ≤ n → n ≤ i → total ≡ sum i g → total ≡ sum n g
+summed-all g n i total l h so-far = let e : i ≡ n = omega arith in rw e at so-far

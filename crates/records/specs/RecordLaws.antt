@@ -37,6 +37,9 @@ module _ {A : Type 0} where
   sets-append [] ys l at j e = let e′ : j ≡ at = omega arith in rw e′
   sets-append (x ∷ xs) ys l at j e = sets-append xs ys (set l at x) (suc at) j (omega arith)
 
+  pub then-sets : (xs ys l l₁ l₂ : List A) (at j : ℕ) → j ≡ at + length xs → l₁ ≡ sets l at xs → l₂ ≡ sets l₁ j ys → l₂ ≡ sets l at (xs ++ ys)
+  then-sets xs ys l l₁ l₂ at j e p q = rw (q, p) (sets-append xs ys l at j e)
+
   -- past the end nothing is stored
   pub sets-past : (vs l : List A) (at : ℕ) → length l ≤ at → sets l at vs ≡ l
   sets-past [] l at h = refl

@@ -1,7 +1,7 @@
 -- Two numbers of two bytes, the low one first.
 use Prim.Native.Nat.{ℕ, _+_, _/_, _%_}
-use mathlib.Core.Path.{_≡_, refl, sym, ap, _∙_}
-use mathlib.Core.List.{List, _++_}
+use mathlib.Core.Path.{_≡_}
+use mathlib.Core.List.{List}
 use native.Mathlib.Omega.{arith}
 use lib.Seq.{sets}
 use Rattle.records.specs.Numbers.{twoBytes, fourBytes}

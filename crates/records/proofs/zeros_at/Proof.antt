@@ -5,7 +5,6 @@ use mathlib.Core.List.{List}
 use mathlib.Core.Bool.{Bool, true, false}
 use native.Mathlib.Omega.{arith}
 use borrow.Author.Tests.{eq-eqb, ne-eqb}
-use lib.ListN.{length}
 use lib.Dec.{eqb}
 use Rattle.records.specs.Rows.{every}
 use Rattle.records.specs.Numbers.{one, zeros}

@@ -1,0 +1,5 @@
+pub mod Read
+pub mod Searches
+pub mod SearchLaws
+pub mod ReadBack
+pub mod StoreLaws

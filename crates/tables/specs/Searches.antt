@@ -1,0 +1,38 @@
+-- What the searches and counts over the records answer.
+use Prim.Native.Nat.{ℕ}
+use mathlib.Core.List.{List}
+use mathlib.Core.Bool.{Bool}
+use lib.Dec.{eqb}
+use Rattle.records.specs.Rows.{lowest, howMany, sum}
+use Rattle.meaning.specs.File.{needed}
+use Rattle.meaning.specs.Tables.{blockCount, fileCount, channelCount, kindAt, lengthAt, channelFileAt, isFree}
+
+-- how many blocks are free
+unfoldable pub freeBlockCount : List ℕ → ℕ
+freeBlockCount records = howMany (blockCount records) (λ b. isFree records b)
+
+-- file record r has a kind; kind 0 is a free record's
+abbrev pub isOfKind : List ℕ → ℕ → ℕ → Bool
+isOfKind records kind r = eqb (kindAt records r) kind
+
+-- the lowest file record of a kind, the file count where there is none; and how many there are
+unfoldable pub fileWith : List ℕ → ℕ → ℕ
+fileWith records kind = lowest (fileCount records) (λ r. isOfKind records kind r)
+
+unfoldable pub filesWith : List ℕ → ℕ → ℕ
+filesWith records kind = howMany (fileCount records) (λ r. isOfKind records kind r)
+
+-- channel c holds file f; file 0 is a free channel's
+abbrev pub isTo : List ℕ → ℕ → ℕ → Bool
+isTo records f c = eqb (channelFileAt records c) f
+
+-- the lowest channel that holds file f, the channel count where there is none; and how many there are
+unfoldable pub channelWith : List ℕ → ℕ → ℕ
+channelWith records f = lowest (channelCount records) (λ c. isTo records f c)
+
+unfoldable pub channelsWith : List ℕ → ℕ → ℕ
+channelsWith records f = howMany (channelCount records) (λ c. isTo records f c)
+
+-- how many blocks the files need
+unfoldable pub neededBlocks : List ℕ → ℕ
+neededBlocks records = sum (fileCount records) (λ r. needed (lengthAt records r))
