@@ -1,0 +1,16 @@
+pub mod Blocks
+pub mod Releasing
+pub mod Taking
+pub mod Laying
+pub mod Lengths
+pub mod Layout
+pub mod Places
+pub mod Counting
+pub mod Fits
+pub mod Resizing
+pub mod PutFile
+pub mod PutLayout
+pub mod PutChannel
+pub mod PutPrepared
+pub mod Room
+pub mod Putting
