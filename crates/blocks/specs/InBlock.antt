@@ -17,7 +17,7 @@ use Rattle.records.specs.RowLaws.{sum-update, sum-term}
 use Rattle.records.specs.RecordLaws.{getD-sets-in, getD-sets-out}
 use Rattle.meaning.specs.Tables.{blockCount, place, holds, blockOf}
 use Rattle.layout.specs.Blocks.{its-place, holds-owner, holds-place, some-block, block-holds}
-use Rattle.blocks.specs.Runs.{byteNo, laidRun, Housed, inBlock, Laying}
+use Rattle.blocks.specs.Runs.{byteNo, laidRun, Housed, inBlock, Moving}
 use Rattle.blocks.specs.RunLaws.{Within, within-or-not, length-laidRun, laid-in, laid-out, laidRun-none, laidRun-append}
 
 -- ---- a run within one block
@@ -105,27 +105,27 @@ byte-fits blocks records f at n done h d =
     let l : at + done < 65536 = h .near (at + done) (omega arith) (omega arith) in
     record { fits = omega arith }
 
-pub place-fits : (blocks records : List ℕ) (f k n : ℕ) (bytes : List ℕ) (start : ℕ) → Laying blocks records f k n bytes start → Fits w16 (k / 512)
+pub place-fits : (blocks records : List ℕ) (f k n : ℕ) (bytes : List ℕ) (start : ℕ) → Moving blocks records f k n bytes start → Fits w16 (k / 512)
 place-fits blocks records f k n bytes start h =
     let l : k < 65536 = h .housed .near k (omega arith) (omega (arith, h .some)) in
     record { fits = omega arith }
 
-module _ (blocks records : List ℕ) (f k n : ℕ) (bytes : List ℕ) (start : ℕ) (laying : Laying blocks records f k n bytes start)
+module _ (blocks records : List ℕ) (f k n : ℕ) (bytes : List ℕ) (start : ℕ) (moving : Moving blocks records f k n bytes start)
     (b : ℕ) (is-b : b ≡ blockOf records f (k / 512)) (m : ℕ) (is-m : m ≡ inBlock k n) where
   run-length : length (take m (drop start bytes)) ≡ m
-  run-length = simp (length-take, length-drop) (omega (arith, laying .within))
+  run-length = simp (length-take, length-drop) (omega (arith, moving .within))
 
   run-housed : Housed blocks records f k (length (take m (drop start bytes)))
-  run-housed = housed-part blocks blocks records f k n k (length (take m (drop start bytes))) (laying .housed) refl (omega arith) (omega (arith, run-length))
+  run-housed = housed-part blocks blocks records f k n k (length (take m (drop start bytes))) (moving .housed) refl (omega arith) (omega (arith, run-length))
 
-  pub laying-fits : 512 * b + k % 512 + m ≤ length blocks
-  laying-fits =
-      omega (arith, run-length, run-in blocks records f k (take m (drop start bytes)) run-housed (omega (arith, run-length)) b is-b (omega (arith, run-length, laying .some)))
+  pub moving-fits : 512 * b + k % 512 + m ≤ length blocks
+  moving-fits =
+      omega (arith, run-length, run-in blocks records f k (take m (drop start bytes)) run-housed (omega (arith, run-length)) b is-b (omega (arith, run-length, moving .some)))
 
-  pub laying-laid : (next : List ℕ) → next ≡ sets blocks (512 * b + k % 512) (take m (drop start bytes))
+  pub moving-laid : (next : List ℕ) → next ≡ sets blocks (512 * b + k % 512) (take m (drop start bytes))
       → next ≡ laidRun blocks records f k (take (inBlock k n) (drop start bytes))
-  laying-laid next e =
-      e ∙ laidRun-block blocks records f k (take m (drop start bytes)) run-housed (omega (arith, run-length)) b is-b (omega (arith, run-length, laying .some))
+  moving-laid next e =
+      e ∙ laidRun-block blocks records f k (take m (drop start bytes)) run-housed (omega (arith, run-length)) b is-b (omega (arith, run-length, moving .some))
       ∙ ap (λ (m : ℕ). laidRun blocks records f k (take m (drop start bytes))) is-m
 
 -- a run laid part by part: so far, the first `done` bytes of it

@@ -13,8 +13,8 @@ use Rattle.records.specs.RowLaws.{length-listOf, getD-listOf}
 use Rattle.records.specs.RecordLaws.{sets-append}
 use Rattle.meaning.specs.File.{readFILE, over}
 use Rattle.meaning.specs.Tables.{Tables, storeOf, fileOf, byteOf, blockOf, lengthAt, fileLength}
-use Rattle.blocks.specs.Runs.{byteIn, runOf, inBlock, Laying}
-use Rattle.blocks.specs.InBlock.{laying-fits}
+use Rattle.blocks.specs.Runs.{byteIn, runOf, inBlock, Moving}
+use Rattle.blocks.specs.InBlock.{moving-fits}
 
 -- a run laid at the head
 pub over-sets : (xs out : List ℕ) → length xs ≤ length out → sets out 0 xs ≡ over out xs
@@ -72,12 +72,12 @@ module _ (blocks records : List ℕ) (f : ℕ) where
 
 -- ---- as the code meets them
 
-module _ (blocks records : List ℕ) (f k n : ℕ) (out : List ℕ) (start : ℕ) (laying : Laying blocks records f k n out start)
+module _ (blocks records : List ℕ) (f k n : ℕ) (out : List ℕ) (start : ℕ) (moving : Moving blocks records f k n out start)
     (b : ℕ) (is-b : b ≡ blockOf records f (k / 512)) (m : ℕ) (is-m : m ≡ inBlock k n) where
-  pub laying-read : (next : List ℕ) → next ≡ sets out start (take m (drop (512 * b + k % 512) blocks))
+  pub moving-read : (next : List ℕ) → next ≡ sets out start (take m (drop (512 * b + k % 512) blocks))
       → next ≡ sets out start (runOf blocks records f k (inBlock k n))
-  laying-read next e =
-      e ∙ ap (sets out start) (runOf-block blocks records f k m b (omega arith) is-b (laying-fits blocks records f k n out start laying b is-b m is-m))
+  moving-read next e =
+      e ∙ ap (sets out start) (runOf-block blocks records f k m b (omega arith) is-b (moving-fits blocks records f k n out start moving b is-b m is-m))
       ∙ ap (λ (m : ℕ). sets out start (runOf blocks records f k m)) is-m
 
 -- a run read part by part: so far, the first `done` bytes of it

@@ -34,8 +34,8 @@ pub record Housed (blocks records : List ℕ) (f at n : ℕ) : Type 0 where
 abbrev pub inBlock : ℕ → ℕ → ℕ
 inBlock k n = min (512 - k % 512) n
 
--- a run of bytes, from byte `start` on, can be laid into the block of byte k of file f
-pub record Laying (blocks records : List ℕ) (f k n : ℕ) (bytes : List ℕ) (start : ℕ) : Type 0 where
+-- as many of n bytes of file f, from byte k on, as lie in one block can be moved there from a list, from byte `start` of it on, or back
+pub record Moving (blocks records : List ℕ) (f k n : ℕ) (bytes : List ℕ) (start : ℕ) : Type 0 where
   pub some : 0 < n
   pub housed : Housed blocks records f k n
   pub within : start + inBlock k n ≤ length bytes

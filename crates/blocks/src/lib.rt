@@ -12,7 +12,7 @@ ghost use lib.Seq.{sets};
 ghost use Rattle.meaning.specs.File.{over};
 ghost use Rattle.meaning.specs.Tables.{blockCount, released, takenFrom};
 ghost use Rattle.blocks.specs.Places.{releasedAt, WholeRecords, Took};
-ghost use Rattle.blocks.specs.Runs.{inBlock, laidRun, runOf, Housed, Laying};
+ghost use Rattle.blocks.specs.Runs.{inBlock, laidRun, runOf, Housed, Moving};
 
 // Block b let go, if it is a place of file f from n on.
 fn release_block(block_records: &mut [u8], b: BlockNo, f: FileNo, n: u16)
@@ -104,7 +104,7 @@ fn lay_in_block(
     data: &[u8],
     start: usize,
 ) -> usize
-    requires { ⌜ Laying (now blocks) (now «block_records») (f .0) k n (now «data») start ⌝ }
+    requires { ⌜ Moving (now blocks) (now «block_records») (f .0) k n (now «data») start ⌝ }
     ensures { λ r. ⌜ r ≡ inBlock k n ⌝ }
     ensures { λ r. ⌜ now (blocks .exit) ≡ laidRun (now (blocks .entry)) (now («block_records» .entry)) (f .0) k (take (inBlock k n) (drop start (now («data» .entry)))) ⌝ }
 {
@@ -149,7 +149,7 @@ fn read_in_block(
     out: &mut [u8],
     start: usize,
 ) -> usize
-    requires { ⌜ Laying (now blocks) (now «block_records») (f .0) k n (now out) start ⌝ }
+    requires { ⌜ Moving (now blocks) (now «block_records») (f .0) k n (now out) start ⌝ }
     ensures { λ r. ⌜ r ≡ inBlock k n ⌝ }
     ensures { λ r. ⌜ now (out .exit) ≡ sets (now (out .entry)) start (runOf (now (blocks .entry)) (now («block_records» .entry)) (f .0) k (inBlock k n)) ⌝ }
 {

@@ -7,7 +7,7 @@ use borrow.Author.Needs.{needs}
 use lib.ListN.{length, take, drop, length-replicate, replicate-append-replicate}
 use lib.Seq.{take-at, drop-at}
 use Rattle.meaning.specs.File.{zero-bytes}
-use Rattle.blocks.specs.Runs.{inBlock, laidRun, Housed, Laying}
+use Rattle.blocks.specs.Runs.{inBlock, laidRun, Housed, Moving}
 use Rattle.blocks.specs.InBlock.{byte-fits, housed-part, laid-start, laid-next, laid-end}
 use Rattle.blocks.proofs.fill_gap.Statement.{statement}
 use Rattle.blocks.proofs.fill_gap.Tie as tie
@@ -30,7 +30,7 @@ part-zeros d m n h =
     )
 
 module _ (blocks₀ records : List ℕ) (f at n : ℕ) (blank : List ℕ) (is-blank : blank ≡ zero-bytes 512) (blocks : List ℕ) (done : ℕ) where
-  ready : Housed blocks₀ records f at n → length blocks ≡ length blocks₀ → done < n → Laying blocks records f (at + done) (n - done) blank 0
+  ready : Housed blocks₀ records f at n → length blocks ≡ length blocks₀ → done < n → Moving blocks records f (at + done) (n - done) blank 0
   ready h l d =
       record {
         some = omega arith;

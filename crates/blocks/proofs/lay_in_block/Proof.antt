@@ -2,14 +2,14 @@ use Prim.Native.Nat.{_+_, _*_, _%_, _≤_}
 use native.Mathlib.Omega.{arith}
 use borrow.Author.Needs.{needs}
 use lib.ListN.{length}
-use Rattle.blocks.specs.InBlock.{place-fits, laying-fits, laying-laid}
+use Rattle.blocks.specs.InBlock.{place-fits, moving-fits, moving-laid}
 use Rattle.blocks.proofs.lay_in_block.Statement.{statement}
 use Rattle.blocks.proofs.lay_in_block.Tie as tie
 
 fits : (c : tie.After-copy-run-arg)
     → 512 * c .before .find-block .result + c .before .before .before .before .before .before .args .k % 512 + c .before .before .in-block .result
     ≤ length (c .before .before .before .before .before .before .args .blocks .now)
-fits c = search laying-fits
+fits c = search moving-fits
 
 in-block-requires : tie.Need-in-block-requires
 in-block-requires c κs = search needs
@@ -33,7 +33,7 @@ same-length : tie.Need-same-length
 same-length c = search needs
 
 returns : tie.Need-returns
-returns c = (search needs, search laying-laid)
+returns c = (search needs, search moving-laid)
 
 pub lay-in-block-spec : {M : Type 1} → statement M
 lay-in-block-spec =

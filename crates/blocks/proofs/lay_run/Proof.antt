@@ -5,13 +5,13 @@ use mathlib.Core.List.{List}
 use native.Mathlib.Omega.{arith}
 use borrow.Author.Needs.{needs}
 use lib.ListN.{length, take, drop}
-use Rattle.blocks.specs.Runs.{laidRun, Housed, Laying}
+use Rattle.blocks.specs.Runs.{laidRun, Housed, Moving}
 use Rattle.blocks.specs.InBlock.{byte-fits, housed-part, laid-start, laid-next, laid-end}
 use Rattle.blocks.proofs.lay_run.Statement.{statement}
 use Rattle.blocks.proofs.lay_run.Tie as tie
 
 ready : (blocks₀ blocks records bytes : List ℕ) (f at n done : ℕ) → Housed blocks₀ records f at (length bytes) → n ≡ length bytes
-    → length blocks ≡ length blocks₀ → done < n → Laying blocks records f (at + done) (n - done) bytes done
+    → length blocks ≡ length blocks₀ → done < n → Moving blocks records f (at + done) (n - done) bytes done
 ready blocks₀ blocks records bytes f at n done h e l d =
     record {
       some = omega arith;

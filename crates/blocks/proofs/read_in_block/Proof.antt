@@ -2,15 +2,15 @@ use Prim.Native.Nat.{_+_, _*_, _%_, _≤_}
 use native.Mathlib.Omega.{arith}
 use borrow.Author.Needs.{needs}
 use lib.ListN.{length}
-use Rattle.blocks.specs.InBlock.{place-fits, laying-fits}
-use Rattle.blocks.specs.ReadLaws.{laying-read}
+use Rattle.blocks.specs.InBlock.{place-fits, moving-fits}
+use Rattle.blocks.specs.ReadLaws.{moving-read}
 use Rattle.blocks.proofs.read_in_block.Statement.{statement}
 use Rattle.blocks.proofs.read_in_block.Tie as tie
 
 fits : (c : tie.After-find-block)
     → 512 * c .find-block .result + c .before .before .before .before .before .args .k % 512 + c .before .in-block .result
     ≤ length (c .before .before .before .before .before .args .blocks .now)
-fits c = search laying-fits
+fits c = search moving-fits
 
 in-block-requires : tie.Need-in-block-requires
 in-block-requires c κs = search needs
@@ -34,7 +34,7 @@ same-length : tie.Need-same-length
 same-length c = search needs
 
 returns : tie.Need-returns
-returns c = (search needs, search laying-read)
+returns c = (search needs, search moving-read)
 
 pub read-in-block-spec : {M : Type 1} → statement M
 read-in-block-spec =

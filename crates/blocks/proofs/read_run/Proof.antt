@@ -6,14 +6,14 @@ use native.Mathlib.Omega.{arith}
 use borrow.Author.Needs.{needs}
 use lib.ListN.{length}
 use lib.Seq.{sets}
-use Rattle.blocks.specs.Runs.{runOf, Housed, Laying}
+use Rattle.blocks.specs.Runs.{runOf, Housed, Moving}
 use Rattle.blocks.specs.InBlock.{byte-fits, housed-part}
 use Rattle.blocks.specs.ReadLaws.{read-start, read-next, read-end}
 use Rattle.blocks.proofs.read_run.Statement.{statement}
 use Rattle.blocks.proofs.read_run.Tie as tie
 
 ready : (blocks records out₀ out : List ℕ) (f at n done : ℕ) → Housed blocks records f at n → n ≤ length out₀ → length out ≡ length out₀ → done < n
-    → Laying blocks records f (at + done) (n - done) out done
+    → Moving blocks records f (at + done) (n - done) out done
 ready blocks records out₀ out f at n done h fits l d =
     record {
       some = omega arith;
