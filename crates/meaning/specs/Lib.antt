@@ -1,4 +1,5 @@
 pub mod File
+pub mod FileLaws
 pub mod Name
 pub mod Store
 pub mod Result
@@ -8,6 +9,7 @@ pub mod Tables
 pub mod Sound
 pub mod Run
 pub mod Determined
+pub mod Answers
 pub mod Text
 pub mod Running
 pub mod Figures

@@ -28,3 +28,33 @@ pub struct ChannelNo(pub u32);
 
 // Blocks are counted from 0.
 pub struct BlockNo(pub u16);
+
+// What create and open answer: the channel.
+pub enum Opened {
+    At(ChannelNo),
+    Refused(Report),
+}
+
+// What read, write and ls answer: a count of bytes or of names.
+pub enum Counted {
+    Of(u32),
+    Refused(Report),
+}
+
+// What seek answers: the new position.
+pub enum Sought {
+    At(u32),
+    Refused(Report),
+}
+
+// What fstat answers: length, file number, kind.
+pub enum Stat {
+    Of(u32, FileNo, u8),
+    Refused(Report),
+}
+
+// What room answers: free blocks, free file numbers, free channels.
+pub enum Space {
+    Of(u32, u32, u32),
+    Refused(Report),
+}

@@ -1,0 +1,10 @@
+pub mod ByteLaws
+pub mod Syllables
+pub mod SyllableTests
+pub mod SyllableLaws
+pub mod ReadLaws
+pub mod LastSyllable
+pub mod FormLaws
+pub mod Spelling
+pub mod RecordLaws
+pub mod RecordNames

@@ -1,0 +1,229 @@
+// Names: their syllables, and the directory records that hold them (01, "Names").
+use meaning::FileNo;
+ghost use mathlib.Core.Path.{_≡_};
+ghost use Prim.Native.Nat.{_+_, _-_, _≤_, _<_};
+ghost use lib.ListN.{length};
+ghost use lib.Seq.{sets};
+ghost use Rattle.records.specs.Rows.{lowestFrom};
+ghost use Rattle.records.specs.Numbers.{one, twoBytes, zeros};
+ghost use Rattle.meaning.specs.Name.{isSyllable, syllables, same, entry, entryIn, written, blankRecord};
+ghost use Rattle.names.specs.Syllables.{part, isSlash, syllableEnd, nearEnd, lastStart, formOf};
+ghost use Rattle.names.specs.RecordNames.{recordFrom, padded};
+
+// What a row of bytes is as a name: how many syllables it has, or that it is not written as a name.
+pub enum NameForm {
+    Syllables(usize),
+    Bad,
+}
+
+// The first slash from one place up to another, or the place where the search ends.
+fn first_slash(name: &[u8], from: usize, to: usize) -> usize
+    requires { ⌜ to ≤ length (now name) ⌝ }
+    ensures { λ r. ⌜ r ≡ lowestFrom from (to - from) (isSlash (now (name .entry))) ⌝ }
+{
+    let mut i = from;
+    while i < to {
+        if name[i] == b'/' {
+            return i;
+        }
+        i += 1;
+    }
+    i
+}
+
+// Where the syllable that starts at a place ends.
+pub fn syllable_end(name: &[u8], at: usize) -> usize
+    ensures { λ r. ⌜ r ≡ syllableEnd (now (name .entry)) at ⌝ }
+{
+    first_slash(name, at, name.len())
+}
+
+// The same, where no more than 15 bytes are looked at: a syllable is shorter.
+fn near_end(name: &[u8], at: usize) -> usize
+    requires { ⌜ at ≤ length (now name) ⌝ }
+    ensures { λ r. ⌜ r ≡ nearEnd (now (name .entry)) at ⌝ }
+{
+    if name.len() - at < 15 {
+        return first_slash(name, at, name.len());
+    }
+    first_slash(name, at, at + 15)
+}
+
+// Whether the part of a name from one place up to another is a syllable.
+pub fn is_syllable(name: &[u8], from: usize, to: usize) -> bool
+    requires { ⌜ (from ≤ to) × (to ≤ length (now name)) ⌝ }
+    ensures { λ r. ⌜ r ≡ isSyllable (part (now (name .entry)) from to) ⌝ }
+{
+    let size = to - from;
+    if size < 1 {
+        return false;
+    }
+    if 14 < size {
+        return false;
+    }
+    let mut i = from;
+    while i < to {
+        if name[i] == 0 {
+            return false;
+        }
+        if name[i] == b'/' {
+            return false;
+        }
+        i += 1;
+    }
+    true
+}
+
+// The form of a name that starts with a slash and goes on: its syllables are counted from the left.
+fn count_syllables(name: &[u8]) -> NameForm
+    requires { ⌜ (1 < length (now name)) × (one (now name) 0 ≡ 47) ⌝ }
+    ensures { λ r. ⌜ r ≡ formOf (syllables (now (name .entry))) ⌝ }
+{
+    let mut at = 1;
+    let mut k = 0;
+    while k < 8 {
+        let end = near_end(name, at);
+        if !is_syllable(name, at, end) {
+            return NameForm::Bad;
+        }
+        k += 1;
+        if end == name.len() {
+            return NameForm::Syllables(k);
+        }
+        at = end + 1;
+    }
+    NameForm::Bad
+}
+
+// Whether a row of bytes is written as a name, and how many syllables it has.
+pub fn name_form(name: &[u8]) -> NameForm
+    ensures { λ r. ⌜ r ≡ formOf (syllables (now (name .entry))) ⌝ }
+{
+    if name.len() == 0 {
+        return NameForm::Bad;
+    }
+    if name[0] != b'/' {
+        return NameForm::Bad;
+    }
+    if name.len() == 1 {
+        return NameForm::Syllables(0);
+    }
+    count_syllables(name)
+}
+
+// Where the last syllable of a name starts: behind the last slash.
+pub fn last_start(name: &[u8]) -> usize
+    ensures { λ r. ⌜ r ≡ lastStart (now (name .entry)) ⌝ }
+{
+    let n = name.len();
+    let mut i = 0;
+    while i < n {
+        if name[n - 1 - i] == b'/' {
+            return n - i;
+        }
+        i += 1;
+    }
+    0
+}
+
+// Whether the record that starts at a place of a table has a part of a name as its name.
+pub fn names_record(table: &[u8], at: usize, name: &[u8], from: usize, to: usize) -> bool
+    requires { ⌜ at + 16 ≤ length (now table) ⌝ ∗ ⌜ (from ≤ to) × (to ≤ length (now name)) ⌝ }
+    ensures { λ r. ⌜ r ≡ same (entryIn (recordFrom (now (table .entry)) at) .name) (part (now (name .entry)) from to) ⌝ }
+{
+    let n = to - from;
+    if 14 < n {
+        return false;
+    }
+    let mut i = 0;
+    while i < n {
+        let b = table[at + 2 + i];
+        if b == 0 {
+            return false;
+        }
+        if b != name[from + i] {
+            return false;
+        }
+        i += 1;
+    }
+    if n == 14 {
+        return true;
+    }
+    table[at + 2 + n] == 0
+}
+
+// The file number of the record that starts at a place.
+pub fn record_file(table: &[u8], at: usize) -> FileNo
+    requires { ⌜ at + 16 ≤ length (now table) ⌝ }
+    ensures { λ r. ⌜ r .0 ≡ entryIn (recordFrom (now (table .entry)) at) .file ⌝ }
+{
+    FileNo((table[at] as u16) + 256 * (table[at + 1] as u16))
+}
+
+// Whether the record that starts at a place is blank.
+pub fn is_blank(table: &[u8], at: usize) -> bool
+    requires { ⌜ at + 16 ≤ length (now table) ⌝ }
+    ensures { λ r. ⌜ r ≡ zeros (now (table .entry)) at 16 ⌝ }
+{
+    let mut i = 0;
+    while i < 16 {
+        if table[at + i] != 0 {
+            return false;
+        }
+        i += 1;
+    }
+    true
+}
+
+// The record that starts at a place made blank.
+pub fn blank_record(table: &mut [u8], at: usize)
+    requires { ⌜ at + 16 ≤ length (now table) ⌝ }
+    ensures { λ r. ⌜ now (table .exit) ≡ sets (now (table .entry)) at blankRecord ⌝ }
+{
+    let mut i = 0;
+    while i < 16 {
+        table[at + i] = 0;
+        i += 1;
+    }
+}
+
+// A file number laid at a place, low byte first.
+fn put_number(table: &mut [u8], at: usize, n: u16)
+    requires { ⌜ at + 1 < length (now table) ⌝ }
+    ensures { λ r. ⌜ now (table .exit) ≡ sets (now (table .entry)) at (twoBytes n) ⌝ }
+{
+    table[at] = (n % 256) as u8;
+    table[at + 1] = (n / 256) as u8;
+}
+
+// Byte i of a part of a name, or 0 behind it.
+fn byte_or_zero(name: &[u8], from: usize, to: usize, i: usize) -> u8
+    requires { ⌜ (from ≤ to) × (to ≤ length (now name)) ⌝ }
+    ensures { λ r. ⌜ r ≡ one (part (now (name .entry)) from to) i ⌝ }
+{
+    if i < to - from {
+        return name[from + i];
+    }
+    0
+}
+
+// A part of a name laid at a place, with zeros behind it up to 14 bytes.
+fn put_name(table: &mut [u8], at: usize, name: &[u8], from: usize, to: usize)
+    requires { ⌜ at + 14 ≤ length (now table) ⌝ ∗ ⌜ (from ≤ to) × (to ≤ length (now name)) × (to - from ≤ 14) ⌝ }
+    ensures { λ r. ⌜ now (table .exit) ≡ sets (now (table .entry)) at (padded (part (now (name .entry)) from to)) ⌝ }
+{
+    let mut i = 0;
+    while i < 14 {
+        table[at + i] = byte_or_zero(name, from, to, i);
+        i += 1;
+    }
+}
+
+// The record that starts at a place written anew: a part of a name comes to stand for a file.
+pub fn write_record(table: &mut [u8], at: usize, f: FileNo, name: &[u8], from: usize, to: usize)
+    requires { ⌜ at + 16 ≤ length (now table) ⌝ ∗ ⌜ (from ≤ to) × (to ≤ length (now name)) × (to - from ≤ 14) ⌝ }
+    ensures { λ r. ⌜ now (table .exit) ≡ sets (now (table .entry)) at (written (entry (f .0) (part (now (name .entry)) from to))) ⌝ }
+{
+    put_number(table, at, f.0);
+    put_name(table, at + 2, name, from, to);
+}

@@ -1,0 +1,4 @@
+pub mod Line
+pub mod Print
+pub mod Program
+pub mod Examples

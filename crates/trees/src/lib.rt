@@ -1,0 +1,1 @@
+// Stores in which one record of one directory changes: laws in specs/.
