@@ -9,13 +9,11 @@ use mir.Syntax.{w16, w64}
 use mir.Val.{Fits}
 use lib.ListN.{length, getD, take, drop, length-take, length-drop}
 use lib.Seq.{sets, length-sets, ext-getD, length-take-le, take-add, take-all}
-use lib.Dec.{eqb}
-use borrow.Author.Tests.{eq-eqb, ne-eqb}
-use Rattle.records.specs.Rows.{pick, tally, howMany}
+use Rattle.records.specs.Rows.{howMany}
 use Rattle.records.specs.Tests.{same-or-not, lt-or-ge}
-use Rattle.records.specs.RowLaws.{sum-update, sum-term}
 use Rattle.records.specs.RecordLaws.{getD-sets-in, getD-sets-out}
 use Rattle.meaning.specs.Tables.{blockCount, place, holds, blockOf}
+use Rattle.layout.specs.Places.{howMany-two}
 use Rattle.layout.specs.Blocks.{its-place, holds-owner, holds-place, some-block, block-holds}
 use Rattle.blocks.specs.Runs.{byteNo, laidRun, Housed, inBlock, Moving}
 use Rattle.blocks.specs.RunLaws.{Within, within-or-not, length-laidRun, laid-in, laid-out, laidRun-none, laidRun-append}
@@ -24,16 +22,8 @@ use Rattle.blocks.specs.RunLaws.{Within, within-or-not, length-laidRun, 
 
 -- where only one passes, two that pass are one
 the-one : (n : ℕ) (p : ℕ → Bool) → howMany n p ≡ 1 → (i j : ℕ) → i < n → j < n → p i ≡ true → p j ≡ true → i ≡ j
-unfolding howMany
 the-one n p once i j hi hj ei ej =
-    ⊎-elim (λ (e : i ≡ j). e)
-    (λ (d : i ≢ j).
-    let q : ℕ → ℕ = λ k. pick (eqb k i) 0 (tally (p k)) in
-    let less = sum-update n q (λ k. tally (p k)) i hi (λ k h m. rw (ne-eqb k i m)) in
-    let none : q i ≡ 0 = rw (eq-eqb i i refl) in
-    let some : q j ≡ 1 = rw (ne-eqb j i (λ e. d (sym e)), ej) in
-    absurd (omega (arith, sum-term n q j hj, ap tally ei)))
-    (same-or-not i j)
+    ⊎-elim (λ (e : i ≡ j). e) (λ (d : i ≢ j). absurd (omega (arith, howMany-two n p i j hi hj d ei ej))) (same-or-not i j)
 
 module _ (blocks records : List ℕ) (f at : ℕ) (bytes : List ℕ) (run : Housed blocks records f at (length bytes)) (short : at % 512 + length bytes ≤ 512)
     (b : ℕ) (is : b ≡ blockOf records f (at / 512)) (some : 0 < length bytes) where

@@ -4,16 +4,14 @@ use mathlib.Core.Path.{_≡_, refl, sym, ap, _∙_}
 use mathlib.Core.List.{List, _++_}
 use native.Mathlib.Omega.{arith}
 use borrow.Author.Needs.{needs}
-use lib.ListN.{length, take, drop, length-replicate, replicate-append-replicate}
+use lib.ListN.{length, take, drop, replicate-append-replicate}
 use lib.Seq.{take-at, drop-at}
 use Rattle.meaning.specs.File.{zero-bytes}
+use Rattle.meaning.specs.FileLaws.{length-zeros}
 use Rattle.blocks.specs.Runs.{inBlock, laidRun, Housed, Moving}
 use Rattle.blocks.specs.InBlock.{byte-fits, housed-part, laid-start, laid-next, laid-end}
 use Rattle.blocks.proofs.fill_gap.Statement.{statement}
 use Rattle.blocks.proofs.fill_gap.Tie as tie
-
-length-zeros : (n : ℕ) → length (zero-bytes n) ≡ n
-length-zeros n = length-replicate n 0
 
 -- a part of a row of zeros
 part-zeros : (d m n : ℕ) → d + m ≤ n → take m (drop d (zero-bytes n)) ≡ zero-bytes m

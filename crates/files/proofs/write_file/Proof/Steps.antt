@@ -6,6 +6,7 @@ use native.Mathlib.Omega.{arith}
 use lib.ListN.{length, getD}
 use Rattle.records.specs.Numbers.{withRecord}
 use Rattle.meaning.specs.File.{needed, zero-bytes, writeFILE}
+use Rattle.meaning.specs.FileLaws.{length-write}
 use Rattle.meaning.specs.Store.{File, file, freeBlocks}
 use Rattle.meaning.specs.Tables.{Tables, tables, storeOf, fileCount, kindAt, depthAt, lengthAt, fileLength, fileRecord, takenFrom, laid, put}
 use Rattle.tables.specs.StoreLaws.{file-length, store-kind, store-depth, store-length}
@@ -14,7 +15,7 @@ use Rattle.blocks.specs.RunLaws.{Within, length-laidRun}
 use Rattle.blocks.specs.InBlock.{housed-part}
 use Rattle.files.specs.Files.{Writable, withWrite}
 use Rattle.files.specs.PutLaws.{recordsFor, put-tables, same-file}
-use Rattle.files.specs.WriteLaws.{length-write, write-laid}
+use Rattle.files.specs.WriteLaws.{write-laid}
 use Rattle.files.specs.Growing.{near-end, grown, resized-grown, grown-housed, grown-lies}
 
 module _ (blocks records files : List ℕ) (f at : ℕ) (bytes : List ℕ) (can : Writable blocks records files f at bytes) where
