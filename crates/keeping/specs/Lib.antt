@@ -6,3 +6,7 @@ pub mod FileStep
 pub mod ChannelStep
 pub mod Sure
 pub mod Files
+pub mod OnChannels
+pub mod WriteClose
+pub mod Named
+pub mod OnNames
