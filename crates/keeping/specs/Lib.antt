@@ -10,3 +10,8 @@ pub mod OnChannels
 pub mod WriteClose
 pub mod Named
 pub mod OnNames
+pub mod NewFiles
+pub mod Prepared
+pub mod Calls
+pub mod Kept
+pub mod Proofs

@@ -106,6 +106,14 @@ pub spot-moved : (s s′ : Store) (d i : ℕ) (name : List ℕ) → s′ .file d
 spot-moved s s′ d i name e is p =
     record { spelled = p .spelled; directory = is; whole = rw e (p .whole); within = rw e (p .within); others = rw e (p .others) }
 
+-- the directory has room for the record
+pub named-fits : (s : Store) (n : List (List ℕ)) → Place s n → (f : ℕ)
+    → needed (length (naming s n f .bytes)) - needed (length (s .file (parent s n) .bytes)) ≤ freeBlocks s → FileFits s (parent s n) (naming s n f)
+unfolding naming rewritten
+named-fits s n p f room =
+    let u = directory-used s (parent s n) (p .directory) in
+    record { from-one = u .some; to-last = u .within; used = λ l (e : _≡_ {A = ℕ} 2 0). omega arith; room = room }
+
 -- the file that may get it
 pub record Nameable (s : Store) (d f : ℕ) : Type 0 where
   pub in-use : inUse s f ≡ true

@@ -41,7 +41,7 @@ named-used s w z bytes name is there =
     (same-or-not (named s name) root)
 
 module _ (s : Store) (w : Well s) (z : Sized s) where
-  nothing : Sure s []
+  pub nothing : Sure s []
   unfolding afterAll
   nothing = record { fits = tt; well = w }
 

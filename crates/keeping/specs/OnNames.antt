@@ -31,7 +31,7 @@ use Rattle.keeping.specs.FileStep.{Refiled}
 use Rattle.keeping.specs.Sure.{Sure, Good, Sized, past, with-name, if-fits, smaller-fits, sure-then, sure-both, sized-after}
 use Rattle.keeping.specs.Files.{freed-well, let-go}
 use Rattle.keeping.specs.OnChannels.{named-used}
-use Rattle.keeping.specs.Named.{plain-other, other-standing, plain-place, unnamed-fits, unnamed-shape, unnamed-counted, Spot, spot, Nameable, given-shape, given-counted}
+use Rattle.keeping.specs.Named.{plain-other, other-standing, plain-place, named-fits, unnamed-fits, unnamed-shape, unnamed-counted, Spot, spot, Nameable, given-shape, given-counted}
 
 module _ (s : Store) (w : Well s) (z : Sized s) where
   -- ---- unlink: the name is taken, and the file let go
@@ -57,16 +57,10 @@ module _ (s : Store) (w : Well s) (z : Sized s) where
   module _ (to : List (List ℕ)) (p : Place s to) (plain : isDirectory s (named s to) ≡ false) (f : ℕ) (q : Nameable s (parent s to) f)
       (ordinary : isDirectory s f ≡ false) (size : length (naming s to f .bytes) ≤ longest)
       (room : needed (length (naming s to f .bytes)) - needed (length (s .file (parent s to) .bytes)) ≤ freeBlocks s) where
-    named-fits : FileFits s (parent s to) (naming s to f)
-    unfolding naming rewritten
-    named-fits =
-        let u = directory-used s (parent s to) (p .directory) in
-        record { from-one = u .some; to-last = u .within; used = λ l (e : _≡_ {A = ℕ} 2 0). omega arith; room = room }
-
     pub link-sure : Sure s (file (parent s to) (naming s to f) ∷ letGo (withName s to f) (named s to))
     unfolding naming rewritten
     link-sure =
-        sure-then s (file (parent s to) (naming s to f)) (letGo (withName s to f) (named s to)) named-fits
+        sure-then s (file (parent s to) (naming s to f)) (letGo (withName s to f) (named s to)) (named-fits s to p f room)
         (let-go (withName s to f) (named s to)
         (given-shape s (parent s to) (recordFor s to) (last to) (spot s to p) f q (shape s w) size)
         (rw (p .file) at (given-counted s (parent s to) (recordFor s to) (last to) (spot s to p) f q (counted s w f) (λ is. absurd (true≢false (sym is ∙ ordinary)))))

@@ -10,6 +10,7 @@ use native.Mathlib.Omega.{arith}
 use lib.ListN.{length}
 use lib.Dec.{ltb}
 use borrow.Author.Tests.{ltb-false, not-false}
+use Rattle.records.specs.Rows.{pick}
 use Rattle.meaning.specs.File.{needed, longest}
 use Rattle.meaning.specs.Store.{Store, File, Change, after, afterAll, isOpen, freeBlocks}
 use Rattle.meaning.specs.Result.{Result, refused, done, unless, onChannel, withSyllables, ifFits}
@@ -67,6 +68,11 @@ module _ (s : Store) where
   pub on-channel : (c : ℕ) (r : Result) → (isOpen s c ≡ true → Good s r) → Good s (onChannel s c r)
   unfolding onChannel
   on-channel c r good = past (not (isOpen s c)) NoSuchCid r (λ e. good (not-false (isOpen s c) e))
+
+  -- one way where a test passes, and another where it fails
+  pub by-test : (t : Bool) (a b : Result) → (t ≡ true → Good s a) → (t ≡ false → Good s b) → Good s (pick t a b)
+  by-test true a b then else = then refl
+  by-test false a b then else = else refl
 
 -- ---- a change of a file that takes no more blocks
 
