@@ -6,7 +6,7 @@ use mathlib.Core.Option.{Option, none, some}
 use mathlib.Core.Bool.{Bool, true, false, not, _||_}
 use lib.ListN.{length}
 use lib.Dec.{ltb, eqb}
-use borrow.Author.Tests.{not-true}
+use borrow.Author.Tests.{not-false}
 use Rattle.records.specs.Rows.{pick}
 use Rattle.meaning.specs.Name.{isEmpty, nameCount, listing, syllables, mostSyllables}
 use Rattle.meaning.specs.Store.{Store, File, Change, file, channel, noChannel, channelTo, after, afterAll, noFile, ordinary, directory, isDirectory, isOpen, freeFile, freeChannel, named, front, last, root, held, letGo}
@@ -152,11 +152,7 @@ module _ (listed : Listed) (s s′ : Store) (a : SameStore listed s s′) where
 
   -- a directory's bytes, where there is one
   same-dir : (name : List (List ℕ)) → not (isDirectory s′ (named s′ name)) ≡ false → s .file (named s′ name) .bytes ≡ s′ .file (named s′ name) .bytes
-  same-dir name is = directory-bytes listed s s′ a (named s′ name) (directories (named s′ name) ∙ not-not (isDirectory s′ (named s′ name)) is)
-    where
-      not-not : (t : Bool) → not t ≡ false → t ≡ true
-      not-not true h = refl
-      not-not false h = sym h
+  same-dir name is = directory-bytes listed s s′ a (named s′ name) (directories (named s′ name) ∙ not-false (isDirectory s′ (named s′ name)) is)
 
   pub same-rmdir : (bytes : List ℕ) → rmdir bytes s ≡ rmdir bytes s′
   unfolding rmdir

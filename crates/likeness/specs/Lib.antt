@@ -4,3 +4,6 @@ pub mod Congruence
 pub mod Naming
 pub mod Calls
 pub mod Results
+pub mod Depths
+pub mod Stores
+pub mod Likeness

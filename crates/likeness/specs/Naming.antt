@@ -7,7 +7,7 @@ use mathlib.Core.Bool.{Bool, true, false, not, _&&_, true≢false}
 use native.Mathlib.Omega.{arith}
 use lib.ListN.{length, take, getD}
 use lib.Dec.{eqb}
-use borrow.Author.Tests.{eqb-true}
+use borrow.Author.Tests.{not-false}
 use Rattle.records.specs.Rows.{pick}
 use Rattle.records.specs.Tests.{tested}
 use Rattle.meaning.specs.Name.{inDirectory, entry, written, recordNamed, recordForNew, withEntry, blankRecord}
@@ -48,10 +48,6 @@ module _ (s : Store) where
       (λ (m : missing s (x ∷ xs) ≡ true). not-false (isDirectory s (named s (front (x ∷ xs)))) (rw m at e))
       (λ (m : missing s (x ∷ xs) ≡ false). named-directory (x ∷ xs) (omega arith) m)
       (tested (missing s (x ∷ xs))))
-    where
-      not-false : (t : Bool) → not t ≡ false → t ≡ true
-      not-false true h = refl
-      not-false false h = absurd (true≢false h)
 
 -- ---- the same in both
 

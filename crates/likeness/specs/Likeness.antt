@@ -1,0 +1,114 @@
+-- Demand 3: alike stores give the same answers to any row of the same calls, save bytes read from listed files, and stay alike.
+use Prim.Native.Nat.{ℕ, _+_}
+use mathlib.Core.Path.{_≡_, refl, ap, sym, _∙_}
+use mathlib.Core.List.{List, [], _∷_, _++_}
+use mathlib.Core.Bool.{Bool, true, false, not}
+use lib.ListN.{length, drop, length-append, length-drop}
+use lib.Seq.{drop-at}
+use Rattle.meaning.specs.File.{over, readFILE}
+use Rattle.meaning.specs.FileLaws.{length-over}
+use Rattle.meaning.specs.Store.{Store, channel, channelTo, isOpen}
+use Rattle.meaning.specs.Tables.{Tables, storeOf, putAll}
+use Rattle.meaning.specs.Result.{Result, done, unless, onChannel}
+use Rattle.meaning.specs.ChannelCalls.{read}
+use Rattle.meaning.specs.Sound.{sound, lengthsAgree}
+use Rattle.meaning.specs.Run.{Call, Prepare, Room, Create, Open, Unlink, Mkdir, Rmdir, Link, Move, Ls, Close, Fstat, Read, Write, Seek, meaning, accepts, resultOf, answerOf, bytesOf, changesOf, Answer, numbers, Outcome, run, Promise}
+use Rattle.meaning.specs.declared.Report.the-variants.{NoSuchCid}
+use Rattle.layout.specs.Lengths.{agree-lengths}
+use Rattle.layout.specs.Layout.{sound-layout, Holding}
+use Rattle.layout.specs.Fits.{FitsAll}
+use Rattle.layout.specs.Putting.{put-all}
+use Rattle.likeness.specs.Alike.{Listed, Alike, AlikeStores, SameCall, ReadsUnlisted, listedAfter, left, AlikeOutcomes, Step, SameCalls, AlikeThroughout, Demanded}
+use Rattle.likeness.specs.Results.{SameResult, Given, same-result}
+use Rattle.likeness.specs.Stores.{same-stores, alike-left}
+
+-- ---- on a sound store every call is heard
+
+accepted : (call : Call) (t : Tables) → sound t ≡ true → accepts call t ≡ true
+unfolding accepts
+accepted Prepare t e = agree-lengths t (sound-layout t e .lengths)
+accepted Room t e = e
+accepted (Create name) t e = e
+accepted (Open name) t e = e
+accepted (Unlink name) t e = e
+accepted (Mkdir name) t e = e
+accepted (Rmdir name) t e = e
+accepted (Link old new) t e = e
+accepted (Move old new) t e = e
+accepted (Ls name size) t e = e
+accepted (Close c) t e = e
+accepted (Fstat c) t e = e
+accepted (Read c count) t e = e
+accepted (Write c bytes) t e = e
+accepted (Seek c mode n) t e = e
+
+pub heard : (call : Call) (t : Tables) → sound t ≡ true → resultOf call t ≡ meaning call (storeOf t)
+unfolding resultOf unless
+heard call t e = rw (accepted call t e)
+
+-- ---- lent buffers
+
+module _ (buffer out out′ : List ℕ) (size : length out ≡ length out′) where
+  same-length : length (over buffer out) ≡ length (over buffer out′)
+  same-length = length-over buffer out ∙ rw size (sym (length-over buffer out′))
+
+  same-rest : (n : ℕ) → length out ≡ n → drop n (over buffer out) ≡ drop n (over buffer out′)
+  same-rest n e =
+      drop-at out (drop (length out) buffer) n e
+      ∙ ap (λ k. drop k buffer) size
+      ∙ sym (drop-at out′ (drop (length out′) buffer) n (sym size ∙ e))
+
+-- a call that reads answers how many bytes
+read-count : (c count n : ℕ) (s : Store) → answerOf (read c count s) ≡ numbers (n ∷ []) → length (bytesOf (read c count s)) ≡ n
+unfolding read onChannel unless answerOf bytesOf
+read-count c count n s = go (not (isOpen s c))
+  where
+    out : List ℕ
+    out = readFILE (s .file (s .channel c .file) .bytes) (s .channel c .posn) count
+
+    r : Result
+    r = done (length out ∷ []) out (channel c (channelTo (s .channel c .file) (s .channel c .posn + length out)) ∷ [])
+
+    go : (t : Bool) → answerOf (unless t NoSuchCid r) ≡ numbers (n ∷ []) → length (bytesOf (unless t NoSuchCid r)) ≡ n
+    go true e = cc
+    go false e = cc
+
+counted : (call : Call) (s : Store) (c count n : ℕ) → call ≡ Read c count → answerOf (meaning call s) ≡ numbers (n ∷ []) → length (bytesOf (meaning call s)) ≡ n
+unfolding meaning
+counted call s c count n e h = rw e (read-count c count n s (rw e at h))
+
+-- ---- what a call leaves in the tables
+
+module _
+    (fits : (call : Call) (t : Tables) → sound t ≡ true → FitsAll (storeOf t) (changesOf (meaning call (storeOf t))))
+    (kept : (call : Call) (t : Tables) → sound t ≡ true → sound (putAll t (changesOf (meaning call (storeOf t)))) ≡ true)
+  where
+    held-after : (call : Call) (t : Tables) → sound t ≡ true → storeOf (putAll t (changesOf (meaning call (storeOf t)))) ≡ left call (storeOf t)
+    held-after call t e = put-all t (sound-layout t e) (changesOf (meaning call (storeOf t))) (fits call t e) .stored
+
+    module _ (listed : Listed) (t t′ : Tables) (a : Alike listed t t′) where
+      pub alike-call : (call call′ : Call) (buffer : List ℕ) → SameCall listed (storeOf t) call call′
+          → AlikeOutcomes listed (storeOf t) call (run call t buffer) (run call′ t′ buffer)
+      unfolding run
+      alike-call call call′ buffer c =
+          let g : Given listed (storeOf t) (storeOf t′) call call′ = same-result listed (storeOf t) (storeOf t′) (same-stores listed t t′ a) c in
+          let out = bytesOf (meaning call (storeOf t)) in
+          let out′ = bytesOf (meaning call′ (storeOf t′)) in
+          rw (heard call t (a .sound-here), heard call′ t′ (a .sound-there))
+          (record {
+            answers = g .answers;
+            buffers = λ h. ap (over buffer) (g .bytes h);
+            sizes = same-length buffer out out′ (g .sizes);
+            rests = λ d count n e h. same-rest buffer out out′ (g .sizes) n (counted call (storeOf t) d count n e h);
+            stay = record {
+              sound-here = kept call t (a .sound-here);
+              sound-there = kept call′ t′ (a .sound-there);
+              stores = rw (held-after call t (a .sound-here), held-after call′ t′ (a .sound-there)) (alike-left listed (storeOf t) (storeOf t′) call call′ g);
+            };
+          })
+
+    pub alike-row : Demanded
+    alike-row listed t t′ [] a c = a
+    alike-row listed t t′ (x ∷ xs) a c =
+        let o = alike-call listed t t′ a (x .call) (x .other) (x .buffer) (c .0) in
+        (o, alike-row (listedAfter listed (x .call) (storeOf t)) _ _ xs (o .stay) (c .1))
