@@ -1,22 +1,22 @@
 -- What the calls ask of a store is the same for both: what is in use, what is free, names, holders.
-use Prim.Native.Nat.{ℕ, suc, _-_, _<_}
-use mathlib.Core.Path.{_≡_, refl, ap, ap₂, sym, _∙_}
+use Prim.Native.Nat.{ℕ, suc, _-_}
+use mathlib.Core.Path.{_≡_, refl, ap, ap₂, _∙_}
 use mathlib.Core.Logic.{⊎-elim}
 use mathlib.Core.List.{List, [], _∷_, reverse}
 use mathlib.Core.Bool.{Bool, true, false, not, _&&_}
 use native.Mathlib.Omega.{arith}
 use lib.ListN.{length}
-use lib.Dec.{leb, ltb, eqb}
+use lib.Dec.{ltb, eqb}
 use borrow.Author.Tests.{eqb-true, ne-eqb}
-use Rattle.records.specs.Rows.{pick, lowest, howMany, sum}
+use Rattle.records.specs.Rows.{pick, sum}
 use Rattle.records.specs.RowLaws.{lowest-cong, howMany-cong, sum-cong}
 use Rattle.records.specs.Tests.{tested, and-right, and-false}
 use Rattle.meaning.specs.File.{needed}
 use Rattle.meaning.specs.Name.{inDirectory, namesIn}
-use Rattle.meaning.specs.Store.{Store, File, Channel, Change, file, noFile, inUse, isDirectory, isOpen, blocksNeeded, freeBlocks, freeFile, freeChannel, freeFiles, freeChannels, within, namedBack, named, names, held, isOrphan, letGo, front}
-use Rattle.meaning.specs.Result.{Result, unless, onChannel, missing, nowhere, allOpen, allUsed, ifFits}
+use Rattle.meaning.specs.Store.{Store, Channel, file, inUse, isDirectory, isOpen, blocksNeeded, freeBlocks, freeFile, freeChannel, freeFiles, freeChannels, within, namedBack, named, names, held, isOrphan, letGo, front}
+use Rattle.meaning.specs.Result.{missing, nowhere, allOpen, allUsed}
 use Rattle.likeness.specs.Alike.{Listed}
-use Rattle.likeness.specs.Same.{SameFile, SameStore}
+use Rattle.likeness.specs.Same.{SameStore}
 
 module _ (listed : Listed) (s s′ : Store) (a : SameStore listed s s′) where
   -- ---- one file, one channel

@@ -1,20 +1,18 @@
 -- Depths of alike well-formed stores agree, though likeness does not name them: the root is at 0, every other directory
 -- one below the directory that names it, and directories are equal.
 use Prim.Native.Nat.{ℕ, zero, suc, _+_, _≤_, _<_}
-use mathlib.Core.Path.{_≡_, refl, ap, sym, _∙_}
+use mathlib.Core.Path.{_≡_, refl, sym, _∙_}
 use mathlib.Core.Logic.{_≢_, ⊎-elim}
-use mathlib.Core.List.{List}
 use mathlib.Core.Bool.{Bool, true, false}
 use native.Mathlib.Omega.{arith}
-use lib.ListN.{length}
 use lib.Dec.{eqb}
 use borrow.Author.Tests.{eqb-true}
-use Rattle.records.specs.Rows.{pick, lowest, howMany, sum}
+use Rattle.records.specs.Rows.{pick, lowest, sum}
 use Rattle.records.specs.RowLaws.{lowest-hit, some-lowest}
 use Rattle.records.specs.Tests.{tested, same-or-not, lt-or-ge}
 use Rattle.meaning.specs.Name.{recordCount, entryAt, namesIn}
 use Rattle.meaning.specs.Store.{Store, File, isDirectory, names, root}
-use Rattle.soundness.specs.Use.{Used, directory-used, directory-kind, of-directory}
+use Rattle.soundness.specs.Use.{directory-used, directory-kind, of-directory}
 use Rattle.soundness.specs.Well.{Well, FileForm, as-free, as-ordinary, as-directory}
 use Rattle.soundness.specs.WellFacts.{root-depth}
 use Rattle.likeness.specs.Alike.{Listed, AlikeStores}

@@ -7,3 +7,5 @@ pub mod Results
 pub mod Depths
 pub mod Stores
 pub mod Likeness
+pub mod Leaving
+pub mod Consequences

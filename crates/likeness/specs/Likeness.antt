@@ -1,9 +1,9 @@
 -- Demand 3: alike stores give the same answers to any row of the same calls, save bytes read from listed files, and stay alike.
 use Prim.Native.Nat.{ℕ, _+_}
-use mathlib.Core.Path.{_≡_, refl, ap, sym, _∙_}
-use mathlib.Core.List.{List, [], _∷_, _++_}
+use mathlib.Core.Path.{_≡_, ap, sym, _∙_}
+use mathlib.Core.List.{List, [], _∷_}
 use mathlib.Core.Bool.{Bool, true, false, not}
-use lib.ListN.{length, drop, length-append, length-drop}
+use lib.ListN.{length, drop}
 use lib.Seq.{drop-at}
 use Rattle.meaning.specs.File.{over, readFILE}
 use Rattle.meaning.specs.FileLaws.{length-over}
@@ -11,15 +11,15 @@ use Rattle.meaning.specs.Store.{Store, channel, channelTo, isOpen}
 use Rattle.meaning.specs.Tables.{Tables, storeOf, putAll}
 use Rattle.meaning.specs.Result.{Result, done, unless, onChannel}
 use Rattle.meaning.specs.ChannelCalls.{read}
-use Rattle.meaning.specs.Sound.{sound, lengthsAgree}
-use Rattle.meaning.specs.Run.{Call, Prepare, Room, Create, Open, Unlink, Mkdir, Rmdir, Link, Move, Ls, Close, Fstat, Read, Write, Seek, meaning, accepts, resultOf, answerOf, bytesOf, changesOf, Answer, numbers, Outcome, run, Promise}
+use Rattle.meaning.specs.Sound.{sound}
+use Rattle.meaning.specs.Run.{Call, Prepare, Room, Create, Open, Unlink, Mkdir, Rmdir, Link, Move, Ls, Close, Fstat, Read, Write, Seek, meaning, accepts, resultOf, answerOf, bytesOf, changesOf, numbers, run}
 use Rattle.meaning.specs.declared.Report.the-variants.{NoSuchCid}
 use Rattle.layout.specs.Lengths.{agree-lengths}
-use Rattle.layout.specs.Layout.{sound-layout, Holding}
+use Rattle.layout.specs.Layout.{sound-layout}
 use Rattle.layout.specs.Fits.{FitsAll}
 use Rattle.layout.specs.Putting.{put-all}
-use Rattle.likeness.specs.Alike.{Listed, Alike, AlikeStores, SameCall, ReadsUnlisted, listedAfter, left, AlikeOutcomes, Step, SameCalls, AlikeThroughout, Demanded}
-use Rattle.likeness.specs.Results.{SameResult, Given, same-result}
+use Rattle.likeness.specs.Alike.{Listed, Alike, SameCall, listedAfter, left, AlikeOutcomes, Demanded}
+use Rattle.likeness.specs.Results.{Given, same-result}
 use Rattle.likeness.specs.Stores.{same-stores, alike-left}
 
 -- ---- on a sound store every call is heard
@@ -83,8 +83,14 @@ module _
     (fits : (call : Call) (t : Tables) → sound t ≡ true → FitsAll (storeOf t) (changesOf (meaning call (storeOf t))))
     (kept : (call : Call) (t : Tables) → sound t ≡ true → sound (putAll t (changesOf (meaning call (storeOf t)))) ≡ true)
   where
-    held-after : (call : Call) (t : Tables) → sound t ≡ true → storeOf (putAll t (changesOf (meaning call (storeOf t)))) ≡ left call (storeOf t)
-    held-after call t e = put-all t (sound-layout t e) (changesOf (meaning call (storeOf t))) (fits call t e) .stored
+    module _ (call : Call) (t : Tables) (buffer : List ℕ) (e : sound t ≡ true) where
+      pub run-store : storeOf (run call t buffer .tables) ≡ left call (storeOf t)
+      unfolding run
+      run-store = rw (heard call t e) (put-all t (sound-layout t e) (changesOf (meaning call (storeOf t))) (fits call t e) .stored)
+
+      pub run-sound : sound (run call t buffer .tables) ≡ true
+      unfolding run
+      run-sound = rw (heard call t e) (kept call t e)
 
     module _ (listed : Listed) (t t′ : Tables) (a : Alike listed t t′) where
       pub alike-call : (call call′ : Call) (buffer : List ℕ) → SameCall listed (storeOf t) call call′
@@ -94,17 +100,19 @@ module _
           let g : Given listed (storeOf t) (storeOf t′) call call′ = same-result listed (storeOf t) (storeOf t′) (same-stores listed t t′ a) c in
           let out = bytesOf (meaning call (storeOf t)) in
           let out′ = bytesOf (meaning call′ (storeOf t′)) in
+          let stay : Alike (listedAfter listed call (storeOf t)) (run call t buffer .tables) (run call′ t′ buffer .tables) =
+          record {
+            sound-here = run-sound call t buffer (a .sound-here);
+            sound-there = run-sound call′ t′ buffer (a .sound-there);
+            stores = rw (run-store call t buffer (a .sound-here), run-store call′ t′ buffer (a .sound-there)) (alike-left listed (storeOf t) (storeOf t′) call call′ g);
+          } in
           rw (heard call t (a .sound-here), heard call′ t′ (a .sound-there))
           (record {
             answers = g .answers;
             buffers = λ h. ap (over buffer) (g .bytes h);
             sizes = same-length buffer out out′ (g .sizes);
             rests = λ d count n e h. same-rest buffer out out′ (g .sizes) n (counted call (storeOf t) d count n e h);
-            stay = record {
-              sound-here = kept call t (a .sound-here);
-              sound-there = kept call′ t′ (a .sound-there);
-              stores = rw (held-after call t (a .sound-here), held-after call′ t′ (a .sound-there)) (alike-left listed (storeOf t) (storeOf t′) call call′ g);
-            };
+            stay = rw (heard call t (a .sound-here), heard call′ t′ (a .sound-there)) at stay;
           })
 
     pub alike-row : Demanded

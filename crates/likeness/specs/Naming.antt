@@ -1,23 +1,23 @@
 -- The directory that a name lies in, and that directory with a record written anew, are the same for both.
-use Prim.Native.Nat.{ℕ, zero, suc, _+_, _-_, _<_}
-use mathlib.Core.Path.{_≡_, refl, ap, ap₂, sym, _∙_}
+use Prim.Native.Nat.{ℕ, _<_}
+use mathlib.Core.Path.{_≡_, refl, ap, _∙_}
 use mathlib.Core.Logic.{_⊎_, inl, inr, ⊎-elim}
 use mathlib.Core.List.{List, [], _∷_}
-use mathlib.Core.Bool.{Bool, true, false, not, _&&_, true≢false}
+use mathlib.Core.Bool.{Bool, true, false, true≢false}
 use native.Mathlib.Omega.{arith}
-use lib.ListN.{length, take, getD}
+use lib.ListN.{length}
 use lib.Dec.{eqb}
 use borrow.Author.Tests.{not-false}
 use Rattle.records.specs.Rows.{pick}
 use Rattle.records.specs.Tests.{tested}
-use Rattle.meaning.specs.Name.{inDirectory, entry, written, recordNamed, recordForNew, withEntry, blankRecord}
+use Rattle.meaning.specs.Name.{inDirectory, entry, written, withEntry, blankRecord}
 use Rattle.meaning.specs.Store.{Store, File, isDirectory, within, namedBack, named, front, last, root, directory}
-use Rattle.meaning.specs.Result.{Result, unless, missing, nowhere, ifFits}
+use Rattle.meaning.specs.Result.{Result, missing, nowhere, ifFits}
 use Rattle.meaning.specs.NameCalls.{parent, rewritten, recordFor, naming, unnaming, ifNamingFits}
 use Rattle.lookup.specs.Walk.{named-last}
 use Rattle.likeness.specs.Alike.{Listed}
-use Rattle.likeness.specs.Same.{SameFile, SameStore}
-use Rattle.likeness.specs.Congruence.{same-directory, directory-bytes, same-free-blocks, same-named, same-missing}
+use Rattle.likeness.specs.Same.{SameStore}
+use Rattle.likeness.specs.Congruence.{directory-bytes, same-free-blocks, same-named, same-missing}
 
 -- ---- a name's directory, in one store
 

@@ -1,24 +1,21 @@
 -- Every call gives results that are the same but for the bytes of listed files: the same refusal; or the same numbers,
 -- bytes that are equal unless they were read from a listed file, and changes that leave the stores the same.
-use Prim.Native.Nat.{ℕ, _+_, max}
+use Prim.Native.Nat.{ℕ, _+_}
 use mathlib.Core.Path.{_≡_, refl, ap, ap₂, sym, _∙_}
 use mathlib.Core.List.{List, [], _∷_}
 use mathlib.Core.Bool.{Bool, true, false, not, _&&_, true≢false}
 use native.Mathlib.Omega.{arith}
 use lib.ListN.{length}
-use lib.Dec.{ltb, eqb}
 use Rattle.meaning.specs.File.{readFILE, writeFILE}
 use Rattle.meaning.specs.FileLaws.{length-read, length-write}
-use Rattle.meaning.specs.Store.{Store, File, Channel, Change, file, channel, channelTo, ordinary, after, afterAll, isOpen}
+use Rattle.meaning.specs.Store.{Store, Change, file, channel, channelTo, ordinary, afterAll}
 use Rattle.meaning.specs.Result.{Result, refused, done, unless, onChannel, ifFits}
 use Rattle.meaning.specs.ChannelCalls.{read, write}
 use Rattle.meaning.specs.Run.{Call, Prepare, Room, Create, Open, Unlink, Mkdir, Rmdir, Link, Move, Ls, Close, Fstat, Read, Write, Seek, meaning, numbers, answerOf, bytesOf, changesOf}
 use Rattle.meaning.specs.declared.Report.{Report}
-use Rattle.meaning.specs.declared.Report.the-variants.{IsDirectory}
 use Rattle.likeness.specs.Alike.{Listed, SameCall, same, other-bytes, isCreate, ReadsUnlisted}
 use Rattle.likeness.specs.Same.{SameFile, SameStore, after-file, after-same, after-all}
 use Rattle.likeness.specs.Congruence.{same-size, same-kind, same-open, same-free-blocks}
-use Rattle.likeness.specs.Naming.{same-fits}
 use Rattle.likeness.specs.Calls.{same-close, same-seek, same-fstat, same-room, same-open′, same-create, same-link, same-unlink, same-move, same-mkdir, same-rmdir, same-ls}
 
 -- the bytes are equal where `plain` holds, the changes where `fixed` does

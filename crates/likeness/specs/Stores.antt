@@ -3,13 +3,13 @@ use Prim.Native.Nat.{ℕ, _+_, _-_, _*_, _≤_, _<_}
 use mathlib.Core.Path.{_≡_, refl, ap, sym, _∙_}
 use mathlib.Core.Logic.{inr, ⊎-elim}
 use mathlib.Core.List.{List}
-use mathlib.Core.Bool.{Bool, true, false, not, _&&_, true≢false}
+use mathlib.Core.Bool.{true, false, not, _&&_, true≢false}
 use native.Mathlib.Omega.{arith}
 use lib.ListN.{length, List·getD-eq-default}
 use lib.Dec.{eqb}
 use borrow.Author.Tests.{eqb-true, not-false}
 use Rattle.records.specs.Numbers.{one, two, four}
-use Rattle.records.specs.Tests.{tested, both, and-right, lt-or-ge, same-or-not, le-or-gt}
+use Rattle.records.specs.Tests.{tested, both, and-right, lt-or-ge, le-or-gt}
 use Rattle.meaning.specs.Store.{Store, File, Channel, noFile, noChannel, root, afterAll}
 use Rattle.meaning.specs.Tables.{Tables, storeOf, fileOf, fileCount, channelCount, kindAt, depthAt, lengthAt, channelFileAt, positionAt}
 use Rattle.meaning.specs.Sound.{sound, layoutSound, wellFormed}
@@ -20,8 +20,8 @@ use Rattle.layout.specs.Layout.{sound-layout}
 use Rattle.soundness.specs.Use.{three}
 use Rattle.soundness.specs.Well.{Well}
 use Rattle.soundness.specs.WellLaws.{well}
-use Rattle.soundness.specs.WellFacts.{free-none, root-directory}
-use Rattle.likeness.specs.Alike.{Listed, AlikeStores, Alike, SameCall, rewrites, isCreate, empties, left, listedAfter}
+use Rattle.soundness.specs.WellFacts.{free-none}
+use Rattle.likeness.specs.Alike.{Listed, AlikeStores, Alike, rewrites, isCreate, empties, left, listedAfter}
 use Rattle.likeness.specs.Same.{SameFile, SameStore, equal-file, rewritten-equal}
 use Rattle.likeness.specs.Depths.{directory-unlisted, same-depth}
 use Rattle.likeness.specs.Results.{Given}
