@@ -1,1 +1,3 @@
 pub mod Walk
+pub mod Found
+pub mod Filed

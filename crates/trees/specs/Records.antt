@@ -3,7 +3,7 @@ use Prim.Native.Nat.{ℕ, suc, _+_, _-_, _*_, _/_, _≤_, _<_, max}
 use mathlib.Core.Path.{_≡_, refl, ap, sym, _∙_}
 use mathlib.Core.Logic.{_≢_, ⊎-elim}
 use mathlib.Core.List.{List}
-use mathlib.Core.Bool.{Bool, true, false, not}
+use mathlib.Core.Bool.{Bool, true, false, not, true≢false}
 use native.Mathlib.Omega.{arith}
 use lib.ListN.{length}
 use lib.Dec.{ltb}
@@ -74,7 +74,7 @@ module _ (dir r : List ℕ) (n i : ℕ) (whole : length dir ≡ 16 * n) (size : 
       (λ h. ap (λ (x : Entry). x .name) (entry-other dir r n i whole size within j other) ∙ named-has dir name (omega (arith, count)))
     where
       differs : (k : ℕ) → k < recordNamed dir name → entryAt dir k .name ≢ name
-      differs k h e = mathlib.Core.Bool.true≢false (sym (is-same (entryAt dir k .name) name e) ∙ named-first dir name k h)
+      differs k h e = true≢false (sym (is-same (entryAt dir k .name) name e) ∙ named-first dir name k h)
 
   -- the record written has the name that it was given, if no other has it
   pub named-own : ((j : ℕ) → j < i → entryAt dir j .name ≢ entryIn r .name) → recordNamed (withEntry dir i r) (entryIn r .name) ≡ i
@@ -83,3 +83,37 @@ module _ (dir r : List ℕ) (n i : ℕ) (whole : length dir ≡ 16 * n) (size : 
       named-is (withEntry dir i r) (entryIn r .name) i (omega arith)
       (λ j (h : j < i) e. fresh j h (sym (ap (λ (x : Entry). x .name) (entry-other dir r n i whole size within j (omega arith))) ∙ e))
       (λ h. ap (λ (x : Entry). x .name) (entry-same dir r n i whole size within))
+
+  -- ---- what a name stands for there: its own record, another record, none
+
+  pub in-own : ((j : ℕ) → j < i → entryAt dir j .name ≢ entryIn r .name) → inDirectory (withEntry dir i r) (entryIn r .name) ≡ entryIn r .file
+  in-own fresh =
+      let at = named-own fresh in
+      let there : recordNamed (withEntry dir i r) (entryIn r .name) < recordCount (withEntry dir i r) = omega (arith, count-with dir r n i whole size within) in
+      in-found (withEntry dir i r) (entryIn r .name) there
+      ∙ ap (λ (j : ℕ). entryAt (withEntry dir i r) j .file) at
+      ∙ ap (λ (x : Entry). x .file) (entry-same dir r n i whole size within)
+
+  pub in-kept : (name : List ℕ) → recordNamed dir name < n → recordNamed dir name ≢ i → entryIn r .name ≢ name
+      → inDirectory (withEntry dir i r) name ≡ inDirectory dir name
+  in-kept name found other not =
+      let at = named-kept name found other not in
+      let there : recordNamed (withEntry dir i r) name < recordCount (withEntry dir i r) = omega (arith, count-with dir r n i whole size within) in
+      in-found (withEntry dir i r) name there
+      ∙ ap (λ (j : ℕ). entryAt (withEntry dir i r) j .file) at
+      ∙ ap (λ (x : Entry). x .file) (entry-other dir r n i whole size within (recordNamed dir name) other)
+      ∙ sym (in-found dir name (omega (arith, count)))
+
+  pub in-gone : (name : List ℕ) → ((j : ℕ) → j < n → j ≢ i → entryAt dir j .name ≢ name) → entryIn r .name ≢ name → inDirectory (withEntry dir i r) name ≡ 0
+  in-gone name others not =
+      let j = recordNamed (withEntry dir i r) name in
+      let more = count-with dir r n i whole size within in
+      ⊎-elim
+      (λ (h : j < recordCount (withEntry dir i r)).
+      let has = named-has (withEntry dir i r) name h in
+      ⊎-elim
+      (λ (e : j ≡ i). absurd (not (sym (ap (λ (x : Entry). x .name) (entry-same dir r n i whole size within)) ∙ ap (λ (k : ℕ). entryAt (withEntry dir i r) k .name) (sym e) ∙ has)))
+      (λ (d : j ≢ i). absurd (others j (omega arith) d (sym (ap (λ (x : Entry). x .name) (entry-other dir r n i whole size within j d)) ∙ has)))
+      (same-or-not j i))
+      (λ h. in-none (withEntry dir i r) name h)
+      (lt-or-ge j (recordCount (withEntry dir i r)))
