@@ -17,7 +17,7 @@ use Rattle.meaning.specs.declared.Report.the-variants.{OutShort}
 use Rattle.likeness.specs.Alike.{Listed}
 use Rattle.likeness.specs.Same.{SameStore, after-same, after-all}
 use Rattle.likeness.specs.Congruence.{same-kind, same-size, same-held-file, same-directory, same-open, directory-bytes, same-free-blocks, same-free-file, same-free-files, same-free-channel, same-free-channels, same-named, same-held, same-letGo, same-missing, same-nowhere, same-all-open, same-all-used}
-use Rattle.likeness.specs.Naming.{missing-none, same-parent, parent-depth, same-naming, same-unnaming, same-naming-fits}
+use Rattle.likeness.specs.Naming.{not-nowhere, same-parent, parent-depth, same-naming, same-unnaming, same-naming-fits}
 
 -- ---- results that are the same
 
@@ -114,7 +114,7 @@ module _ (listed : Listed) (s s′ : Store) (a : SameStore listed s s′) where
   same-unlink bytes =
       same-syllables (syllables bytes) _ _ λ name.
       same-unless _ _ _ _ _ (missings name) λ there.
-      let dir = same-unnaming listed s s′ a name (missing-none s name there) in
+      let dir = same-unnaming listed s s′ a name (not-nowhere s name there) in
       rw (dir, parents name, nameds name, directories (named s′ name), letting (file (parent s′ name) (unnaming s′ name)) (named s′ name))
 
   pub same-link : (old new : List ℕ) → link old new s ≡ link old new s′
@@ -158,7 +158,7 @@ module _ (listed : Listed) (s s′ : Store) (a : SameStore listed s s′) where
   same-rmdir bytes =
       same-syllables (syllables bytes) _ _ λ name.
       same-unless _ _ _ _ _ (missings name) λ there.
-      let dir = same-unnaming listed s s′ a name (missing-none s name there) in
+      let dir = same-unnaming listed s s′ a name (not-nowhere s name there) in
       rw (dir, parents name, nameds name, directories (named s′ name), same-held listed s s′ a (named s′ name))
       (same-unless _ _ _ _ _ refl λ is. rw (same-dir name is))
 

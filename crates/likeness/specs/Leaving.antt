@@ -79,10 +79,15 @@ module _ (s : Store) where
       (unless-opens _ _ _ (unless-opens _ _ _ (unless-opens _ _ _ (opens-new (parent s name) (naming s name (freeFile s)) (freeFile s) (freeChannel s)))))
       (opens-old (named s name) (freeChannel s)))))
 
+created-emptied : (s : Store) (bytes : List ℕ) (c : ℕ) → answerOf (meaning (Create bytes) s) ≡ numbers (c ∷ [])
+    → empties (Create bytes) s (left (Create bytes) s .channel c .file) ≡ true
+unfolding empties isCreate meaning
+created-emptied s bytes c e = create-opens s bytes c e
+
 -- the file that create opens a channel to is not listed afterwards
 pub created-unlisted : (listed : Listed) (s : Store) (bytes : List ℕ) (c : ℕ) → answerOf (meaning (Create bytes) s) ≡ numbers (c ∷ [])
     → listedAfter listed (Create bytes) s (left (Create bytes) s .channel c .file) ≡ false
-unfolding listedAfter empties isCreate meaning
+unfolding listedAfter
 created-unlisted listed s bytes c e =
     let f = left (Create bytes) s .channel c .file in
-    rw (create-opens s bytes c e) (and-false (listed f && eqb (left (Create bytes) s .file f .kind) 1))
+    rw (created-emptied s bytes c e) (and-false (listed f && eqb (left (Create bytes) s .file f .kind) 1))

@@ -12,7 +12,8 @@ use Rattle.meaning.specs.Tables.{Tables, storeOf, putAll}
 use Rattle.meaning.specs.Result.{Result, done, unless, onChannel}
 use Rattle.meaning.specs.ChannelCalls.{read}
 use Rattle.meaning.specs.Sound.{sound}
-use Rattle.meaning.specs.Run.{Call, Prepare, Room, Create, Open, Unlink, Mkdir, Rmdir, Link, Move, Ls, Close, Fstat, Read, Write, Seek, meaning, accepts, resultOf, answerOf, bytesOf, changesOf, numbers, run}
+use Rattle.meaning.specs.Run.{Call, Prepare, Room, Create, Open, Unlink, Mkdir, Rmdir, Link, Move, Ls, Close, Fstat, Read, Write, Seek, meaning, accepts, resultOf, answerOf, bytesOf, changesOf, numbers, Outcome, run, Promise}
+use Rattle.meaning.specs.Determined.{run-outcome}
 use Rattle.meaning.specs.declared.Report.the-variants.{NoSuchCid}
 use Rattle.layout.specs.Lengths.{agree-lengths}
 use Rattle.layout.specs.Layout.{sound-layout}
@@ -77,46 +78,58 @@ counted : (call : Call) (s : Store) (c count n : ℕ) → call ≡ Read c count 
 unfolding meaning
 counted call s c count n e h = rw e (read-count c count n s (rw e at h))
 
--- ---- what a call leaves in the tables
+-- ---- of tables
 
-module _
-    (fits : (call : Call) (t : Tables) → sound t ≡ true → FitsAll (storeOf t) (changesOf (meaning call (storeOf t))))
-    (kept : (call : Call) (t : Tables) → sound t ≡ true → sound (putAll t (changesOf (meaning call (storeOf t)))) ≡ true)
-  where
-    module _ (call : Call) (t : Tables) (buffer : List ℕ) (e : sound t ≡ true) where
-      pub run-store : storeOf (run call t buffer .tables) ≡ left call (storeOf t)
-      unfolding run
-      run-store = rw (heard call t e) (put-all t (sound-layout t e) (changesOf (meaning call (storeOf t))) (fits call t e) .stored)
+-- what is known of every call on sound tables: its changes fit, and leave them sound
+pub record Keeping : Type 0 where
+  pub fits : (call : Call) (t : Tables) → sound t ≡ true → FitsAll (storeOf t) (changesOf (meaning call (storeOf t)))
+  pub kept : (call : Call) (t : Tables) → sound t ≡ true → sound (putAll t (changesOf (meaning call (storeOf t)))) ≡ true
 
-      pub run-sound : sound (run call t buffer .tables) ≡ true
-      unfolding run
-      run-sound = rw (heard call t e) (kept call t e)
+module _ (keeping : Keeping) where
+  module _ (call : Call) (t : Tables) (buffer : List ℕ) (e : sound t ≡ true) where
+    pub run-store : storeOf (run call t buffer .tables) ≡ left call (storeOf t)
+    unfolding run
+    run-store = rw (heard call t e) (put-all t (sound-layout t e) (changesOf (meaning call (storeOf t))) (keeping .fits call t e) .stored)
 
-    module _ (listed : Listed) (t t′ : Tables) (a : Alike listed t t′) where
-      pub alike-call : (call call′ : Call) (buffer : List ℕ) → SameCall listed (storeOf t) call call′
-          → AlikeOutcomes listed (storeOf t) call (run call t buffer) (run call′ t′ buffer)
-      unfolding run
-      alike-call call call′ buffer c =
-          let g : Given listed (storeOf t) (storeOf t′) call call′ = same-result listed (storeOf t) (storeOf t′) (same-stores listed t t′ a) c in
-          let out = bytesOf (meaning call (storeOf t)) in
-          let out′ = bytesOf (meaning call′ (storeOf t′)) in
-          let stay : Alike (listedAfter listed call (storeOf t)) (run call t buffer .tables) (run call′ t′ buffer .tables) =
+    pub run-sound : sound (run call t buffer .tables) ≡ true
+    unfolding run
+    run-sound = rw (heard call t e) (keeping .kept call t e)
+
+  module _ (listed : Listed) (t t′ : Tables) (a : Alike listed t t′) where
+    module _ (call call′ : Call) (buffer : List ℕ) (c : SameCall listed (storeOf t) call call′) where
+      given : Given listed (storeOf t) (storeOf t′) call call′
+      given = same-result listed (storeOf t) (storeOf t′) (same-stores listed t t′ a) c
+
+      tables-alike : Alike (listedAfter listed call (storeOf t)) (run call t buffer .tables) (run call′ t′ buffer .tables)
+      tables-alike =
           record {
             sound-here = run-sound call t buffer (a .sound-here);
             sound-there = run-sound call′ t′ buffer (a .sound-there);
-            stores = rw (run-store call t buffer (a .sound-here), run-store call′ t′ buffer (a .sound-there)) (alike-left listed (storeOf t) (storeOf t′) call call′ g);
-          } in
+            stores = rw (run-store call t buffer (a .sound-here), run-store call′ t′ buffer (a .sound-there))
+                (alike-left listed (storeOf t) (storeOf t′) call call′ given);
+          }
+
+      pub alike-call : AlikeOutcomes listed (storeOf t) call (run call t buffer) (run call′ t′ buffer)
+      unfolding run
+      alike-call =
+          let out = bytesOf (meaning call (storeOf t)) in
+          let out′ = bytesOf (meaning call′ (storeOf t′)) in
           rw (heard call t (a .sound-here), heard call′ t′ (a .sound-there))
           (record {
-            answers = g .answers;
-            buffers = λ h. ap (over buffer) (g .bytes h);
-            sizes = same-length buffer out out′ (g .sizes);
-            rests = λ d count n e h. same-rest buffer out out′ (g .sizes) n (counted call (storeOf t) d count n e h);
-            stay = rw (heard call t (a .sound-here), heard call′ t′ (a .sound-there)) at stay;
+            answers = given .answers;
+            buffers = λ h. ap (over buffer) (given .bytes h);
+            sizes = same-length buffer out out′ (given .sizes);
+            rests = λ d count n e h. same-rest buffer out out′ (given .sizes) n (counted call (storeOf t) d count n e h);
+            stay = rw (heard call t (a .sound-here), heard call′ t′ (a .sound-there)) at tables-alike;
           })
 
-    pub alike-row : Demanded
-    alike-row listed t t′ [] a c = a
-    alike-row listed t t′ (x ∷ xs) a c =
-        let o = alike-call listed t t′ a (x .call) (x .other) (x .buffer) (c .0) in
-        (o, alike-row (listedAfter listed (x .call) (storeOf t)) _ _ xs (o .stay) (c .1))
+      -- and so are any two outcomes that keep the promise
+      pub promised-alike : (o o′ : Outcome) → Promise call t buffer o → Promise call′ t′ buffer o′ → AlikeOutcomes listed (storeOf t) call o o′
+      promised-alike o o′ p p′ = rw (run-outcome call t buffer o p, run-outcome call′ t′ buffer o′ p′) alike-call
+
+  -- the demand, for any row of calls
+  pub alike-row : Demanded
+  alike-row listed t t′ [] a c = a
+  alike-row listed t t′ (x ∷ xs) a c =
+      let o = alike-call listed t t′ a (x .call) (x .other) (x .buffer) (c .0) in
+      (o, alike-row (listedAfter listed (x .call) (storeOf t)) _ _ xs (o .stay) (c .1))
