@@ -7,3 +7,6 @@ pub mod Lookups
 pub mod Depth
 pub mod Naming
 pub mod Given
+pub mod LetGo
+pub mod Orphans
+pub mod Linked
