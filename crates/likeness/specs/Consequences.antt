@@ -22,9 +22,10 @@ use Rattle.meaning.specs.Running.{step, zeroed, wrong}
 use Rattle.meaning.specs.Text.{text}
 use Rattle.meaning.specs.declared.Report.{Report}
 use Rattle.meaning.specs.declared.Report.the-variants.{NoSuchCid}
+use Rattle.keeping.specs.Proofs.{sound-kept}
 use Rattle.likeness.specs.Alike.{Listed, Alike, AlikeStores, same, listedAfter, left}
 use Rattle.likeness.specs.Leaving.{unless-either}
-use Rattle.likeness.specs.Likeness.{Keeping, heard, run-store, run-sound, alike-call}
+use Rattle.likeness.specs.Likeness.{heard, run-store, alike-call}
 
 -- ---- nothing but the store is seen
 
@@ -116,47 +117,46 @@ module _ (s : Store) (c : ℕ) where
 
 -- ---- of tables
 
-module _ (keeping : Keeping) where
-  told-alike : (listed : Listed) → Nothing listed → (t t′ : Tables) (row : List Asked) → Alike listed t t′ → told t row ≡ told t′ row
-  unfolding told
-  told-alike listed none t t′ [] a = refl
-  told-alike listed none t t′ (x ∷ xs) a =
-      let o = alike-call keeping listed t t′ a (x .call) (x .call) (x .buffer) (same (x .call)) in
-      let more = told-alike (listedAfter listed (x .call) (storeOf t)) (nothing-after listed (x .call) (storeOf t) none) _ _ xs (o .stay) in
-      λ i. (o .answers i, o .buffers (λ c count e. none (storeOf t .channel c .file)) i) ∷ more i
+told-alike : (listed : Listed) → Nothing listed → (t t′ : Tables) (row : List Asked) → Alike listed t t′ → told t row ≡ told t′ row
+unfolding told
+told-alike listed none t t′ [] a = refl
+told-alike listed none t t′ (x ∷ xs) a =
+    let o = alike-call listed t t′ a (x .call) (x .call) (x .buffer) (same (x .call)) in
+    let more = told-alike (listedAfter listed (x .call) (storeOf t)) (nothing-after listed (x .call) (storeOf t) none) _ _ xs (o .stay) in
+    λ i. (o .answers i, o .buffers (λ c count e. none (storeOf t .channel c .file)) i) ∷ more i
 
-  -- tables that hold the same store are told the same, whatever free blocks and room past the ends of files hold,
-  -- and wherever blocks lie
-  pub only-the-store : (t t′ : Tables) (row : List Asked) → sound t ≡ true → sound t′ ≡ true → storeOf t ≡ storeOf t′ → told t row ≡ told t′ row
-  only-the-store t t′ row e e′ s =
-      told-alike (λ f. false) (λ f. refl) t t′ row
-      (record { sound-here = e; sound-there = e′; stores = equal-stores (λ f. false) (λ f. refl) (storeOf t) (storeOf t′) s })
+-- tables that hold the same store are told the same, whatever free blocks and room past the ends of files hold,
+-- and wherever blocks lie
+pub only-the-store : (t t′ : Tables) (row : List Asked) → sound t ≡ true → sound t′ ≡ true → storeOf t ≡ storeOf t′ → told t row ≡ told t′ row
+only-the-store t t′ row e e′ s =
+    told-alike (λ f. false) (λ f. refl) t t′ row
+    (record { sound-here = e; sound-there = e′; stores = equal-stores (λ f. false) (λ f. refl) (storeOf t) (storeOf t′) s })
 
-  -- what a gap reads as: zeros, whatever any block held before
-  pub gap-reads-zero : (t : Tables) (c : ℕ) (bytes ns buffer : List ℕ) (k : ℕ) → sound t ≡ true → answerOf (resultOf (Write c bytes) t) ≡ numbers ns
-      → length (storeOf t .file (storeOf t .channel c .file) .bytes) ≤ k → k < storeOf t .channel c .posn
-      → getD (storeOf (run (Write c bytes) t buffer .tables) .file (storeOf t .channel c .file) .bytes) k 0 ≡ 0
-  unfolding meaning
-  gap-reads-zero t c bytes ns buffer k e accepted past before =
-      rw (run-store keeping (Write c bytes) t buffer e, write-writes (storeOf t) c bytes ns (rw (heard (Write c bytes) t e) at accepted))
-      (gap-zero (storeOf t .file (storeOf t .channel c .file) .bytes) bytes (storeOf t .channel c .posn) k past before)
+-- what a gap reads as: zeros, whatever any block held before
+pub gap-reads-zero : (t : Tables) (c : ℕ) (bytes ns buffer : List ℕ) (k : ℕ) → sound t ≡ true → answerOf (resultOf (Write c bytes) t) ≡ numbers ns
+    → length (storeOf t .file (storeOf t .channel c .file) .bytes) ≤ k → k < storeOf t .channel c .posn
+    → getD (storeOf (run (Write c bytes) t buffer .tables) .file (storeOf t .channel c .file) .bytes) k 0 ≡ 0
+unfolding meaning
+gap-reads-zero t c bytes ns buffer k e accepted past before =
+    rw (run-store (Write c bytes) t buffer e, write-writes (storeOf t) c bytes ns (rw (heard (Write c bytes) t e) at accepted))
+    (gap-zero (storeOf t .file (storeOf t .channel c .file) .bytes) bytes (storeOf t .channel c .posn) k past before)
 
-  -- the same call again has another answer: no constant keeps the promise
-  pub close-twice : (t : Tables) (c : ℕ) (buffer : List ℕ) → sound t ≡ true → isOpen (storeOf t) c ≡ true
-      → (answerOf (resultOf (Close c) t) ≡ numbers []) × (answerOf (resultOf (Close c) (run (Close c) t buffer .tables)) ≡ refusal NoSuchCid)
-  unfolding meaning
-  close-twice t c buffer e is =
-      let u = run (Close c) t buffer .tables in
-      let none : storeOf u .channel c .file ≡ 0 = rw (run-store keeping (Close c) t buffer e) (freed (storeOf t) c is) in (
-        ap answerOf (heard (Close c) t e) ∙ open-close (storeOf t) c is,
-        ap answerOf (heard (Close c) u (run-sound keeping (Close c) t buffer e)) ∙ closed-close (storeOf u) c (not-open (storeOf u) c none),
-      )
+-- the same call again has another answer: no constant keeps the promise
+pub close-twice : (t : Tables) (c : ℕ) (buffer : List ℕ) → sound t ≡ true → isOpen (storeOf t) c ≡ true
+    → (answerOf (resultOf (Close c) t) ≡ numbers []) × (answerOf (resultOf (Close c) (run (Close c) t buffer .tables)) ≡ refusal NoSuchCid)
+unfolding meaning
+close-twice t c buffer e is =
+    let u = run (Close c) t buffer .tables in
+    let none : storeOf u .channel c .file ≡ 0 = rw (run-store (Close c) t buffer e) (freed (storeOf t) c is) in (
+      ap answerOf (heard (Close c) t e) ∙ open-close (storeOf t) c is,
+      ap answerOf (heard (Close c) u (sound-kept (Close c) t buffer e)) ∙ closed-close (storeOf u) c (not-open (storeOf u) c none),
+    )
 
-  -- and so does no program that leaves the tables as they are
-  pub tables-change : (t : Tables) (c : ℕ) (buffer : List ℕ) → sound t ≡ true → isOpen (storeOf t) c ≡ true → run (Close c) t buffer .tables ≢ t
-  tables-change t c buffer e is unchanged =
-      let (first, again) = close-twice t c buffer e is in
-      let z : _≡_ {A = ℕ} 0 1 = cc (ap (λ (u : Tables). answerOf (resultOf (Close c) u)) unchanged) in omega arith
+-- and so does no program that leaves the tables as they are
+pub tables-change : (t : Tables) (c : ℕ) (buffer : List ℕ) → sound t ≡ true → isOpen (storeOf t) c ≡ true → run (Close c) t buffer .tables ≢ t
+tables-change t c buffer e is unchanged =
+    let (first, again) = close-twice t c buffer e is in
+    let z : _≡_ {A = ℕ} 0 1 = cc (ap (λ (u : Tables). answerOf (resultOf (Close c) u)) unchanged) in omega arith
 
 -- there is such a store
 a-channel-closed-twice : wrong (zeroed 1 1 1) (

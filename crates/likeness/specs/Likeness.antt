@@ -8,44 +8,22 @@ use lib.Seq.{drop-at}
 use Rattle.meaning.specs.File.{over, readFILE}
 use Rattle.meaning.specs.FileLaws.{length-over}
 use Rattle.meaning.specs.Store.{Store, channel, channelTo, isOpen}
-use Rattle.meaning.specs.Tables.{Tables, storeOf, putAll}
+use Rattle.meaning.specs.Tables.{Tables, storeOf}
 use Rattle.meaning.specs.Result.{Result, done, unless, onChannel}
 use Rattle.meaning.specs.ChannelCalls.{read}
 use Rattle.meaning.specs.Sound.{sound}
-use Rattle.meaning.specs.Run.{Call, Prepare, Room, Create, Open, Unlink, Mkdir, Rmdir, Link, Move, Ls, Close, Fstat, Read, Write, Seek, meaning, accepts, resultOf, answerOf, bytesOf, changesOf, numbers, Outcome, run, Promise}
+use Rattle.meaning.specs.Run.{Call, Read, meaning, resultOf, answerOf, bytesOf, numbers, Outcome, run, Promise}
 use Rattle.meaning.specs.Determined.{run-outcome}
 use Rattle.meaning.specs.declared.Report.the-variants.{NoSuchCid}
-use Rattle.layout.specs.Lengths.{agree-lengths}
-use Rattle.layout.specs.Layout.{sound-layout}
-use Rattle.layout.specs.Fits.{FitsAll}
-use Rattle.layout.specs.Putting.{put-all}
+use Rattle.keeping.specs.Proofs.{sound-accepted, store-after, sound-kept}
 use Rattle.likeness.specs.Alike.{Listed, Alike, SameCall, listedAfter, left, AlikeOutcomes, Demanded}
 use Rattle.likeness.specs.Results.{Given, same-result}
 use Rattle.likeness.specs.Stores.{same-stores, alike-left}
 
--- ---- on a sound store every call is heard
-
-accepted : (call : Call) (t : Tables) → sound t ≡ true → accepts call t ≡ true
-unfolding accepts
-accepted Prepare t e = agree-lengths t (sound-layout t e .lengths)
-accepted Room t e = e
-accepted (Create name) t e = e
-accepted (Open name) t e = e
-accepted (Unlink name) t e = e
-accepted (Mkdir name) t e = e
-accepted (Rmdir name) t e = e
-accepted (Link old new) t e = e
-accepted (Move old new) t e = e
-accepted (Ls name size) t e = e
-accepted (Close c) t e = e
-accepted (Fstat c) t e = e
-accepted (Read c count) t e = e
-accepted (Write c bytes) t e = e
-accepted (Seek c mode n) t e = e
-
+-- on a sound store every call is heard
 pub heard : (call : Call) (t : Tables) → sound t ≡ true → resultOf call t ≡ meaning call (storeOf t)
 unfolding resultOf unless
-heard call t e = rw (accepted call t e)
+heard call t e = rw (sound-accepted call t e)
 
 -- ---- lent buffers
 
@@ -80,56 +58,44 @@ counted call s c count n e h = rw e (read-count c count n s (rw e at h))
 
 -- ---- of tables
 
--- what is known of every call on sound tables: its changes fit, and leave them sound
-pub record Keeping : Type 0 where
-  pub fits : (call : Call) (t : Tables) → sound t ≡ true → FitsAll (storeOf t) (changesOf (meaning call (storeOf t)))
-  pub kept : (call : Call) (t : Tables) → sound t ≡ true → sound (putAll t (changesOf (meaning call (storeOf t)))) ≡ true
+pub run-store : (call : Call) (t : Tables) (buffer : List ℕ) → sound t ≡ true → storeOf (run call t buffer .tables) ≡ left call (storeOf t)
+run-store call t buffer e = store-after call t buffer (sound-accepted call t e)
 
-module _ (keeping : Keeping) where
-  module _ (call : Call) (t : Tables) (buffer : List ℕ) (e : sound t ≡ true) where
-    pub run-store : storeOf (run call t buffer .tables) ≡ left call (storeOf t)
+module _ (listed : Listed) (t t′ : Tables) (a : Alike listed t t′) where
+  module _ (call call′ : Call) (buffer : List ℕ) (c : SameCall listed (storeOf t) call call′) where
+    given : Given listed (storeOf t) (storeOf t′) call call′
+    given = same-result listed (storeOf t) (storeOf t′) (same-stores listed t t′ a) c
+
+    tables-alike : Alike (listedAfter listed call (storeOf t)) (run call t buffer .tables) (run call′ t′ buffer .tables)
+    tables-alike =
+        record {
+          sound-here = sound-kept call t buffer (a .sound-here);
+          sound-there = sound-kept call′ t′ buffer (a .sound-there);
+          stores = rw (run-store call t buffer (a .sound-here), run-store call′ t′ buffer (a .sound-there))
+              (alike-left listed (storeOf t) (storeOf t′) call call′ given);
+        }
+
+    pub alike-call : AlikeOutcomes listed (storeOf t) call (run call t buffer) (run call′ t′ buffer)
     unfolding run
-    run-store = rw (heard call t e) (put-all t (sound-layout t e) (changesOf (meaning call (storeOf t))) (keeping .fits call t e) .stored)
+    alike-call =
+        let out = bytesOf (meaning call (storeOf t)) in
+        let out′ = bytesOf (meaning call′ (storeOf t′)) in
+        rw (heard call t (a .sound-here), heard call′ t′ (a .sound-there))
+        (record {
+          answers = given .answers;
+          buffers = λ h. ap (over buffer) (given .bytes h);
+          sizes = same-length buffer out out′ (given .sizes);
+          rests = λ d count n e h. same-rest buffer out out′ (given .sizes) n (counted call (storeOf t) d count n e h);
+          stay = rw (heard call t (a .sound-here), heard call′ t′ (a .sound-there)) at tables-alike;
+        })
 
-    pub run-sound : sound (run call t buffer .tables) ≡ true
-    unfolding run
-    run-sound = rw (heard call t e) (keeping .kept call t e)
+    -- and so are any two outcomes that keep the promise
+    pub promised-alike : (o o′ : Outcome) → Promise call t buffer o → Promise call′ t′ buffer o′ → AlikeOutcomes listed (storeOf t) call o o′
+    promised-alike o o′ p p′ = rw (run-outcome call t buffer o p, run-outcome call′ t′ buffer o′ p′) alike-call
 
-  module _ (listed : Listed) (t t′ : Tables) (a : Alike listed t t′) where
-    module _ (call call′ : Call) (buffer : List ℕ) (c : SameCall listed (storeOf t) call call′) where
-      given : Given listed (storeOf t) (storeOf t′) call call′
-      given = same-result listed (storeOf t) (storeOf t′) (same-stores listed t t′ a) c
-
-      tables-alike : Alike (listedAfter listed call (storeOf t)) (run call t buffer .tables) (run call′ t′ buffer .tables)
-      tables-alike =
-          record {
-            sound-here = run-sound call t buffer (a .sound-here);
-            sound-there = run-sound call′ t′ buffer (a .sound-there);
-            stores = rw (run-store call t buffer (a .sound-here), run-store call′ t′ buffer (a .sound-there))
-                (alike-left listed (storeOf t) (storeOf t′) call call′ given);
-          }
-
-      pub alike-call : AlikeOutcomes listed (storeOf t) call (run call t buffer) (run call′ t′ buffer)
-      unfolding run
-      alike-call =
-          let out = bytesOf (meaning call (storeOf t)) in
-          let out′ = bytesOf (meaning call′ (storeOf t′)) in
-          rw (heard call t (a .sound-here), heard call′ t′ (a .sound-there))
-          (record {
-            answers = given .answers;
-            buffers = λ h. ap (over buffer) (given .bytes h);
-            sizes = same-length buffer out out′ (given .sizes);
-            rests = λ d count n e h. same-rest buffer out out′ (given .sizes) n (counted call (storeOf t) d count n e h);
-            stay = rw (heard call t (a .sound-here), heard call′ t′ (a .sound-there)) at tables-alike;
-          })
-
-      -- and so are any two outcomes that keep the promise
-      pub promised-alike : (o o′ : Outcome) → Promise call t buffer o → Promise call′ t′ buffer o′ → AlikeOutcomes listed (storeOf t) call o o′
-      promised-alike o o′ p p′ = rw (run-outcome call t buffer o p, run-outcome call′ t′ buffer o′ p′) alike-call
-
-  -- the demand, for any row of calls
-  pub alike-row : Demanded
-  alike-row listed t t′ [] a c = a
-  alike-row listed t t′ (x ∷ xs) a c =
-      let o = alike-call listed t t′ a (x .call) (x .other) (x .buffer) (c .0) in
-      (o, alike-row (listedAfter listed (x .call) (storeOf t)) _ _ xs (o .stay) (c .1))
+-- the demand, for any row of calls
+pub alike-row : Demanded
+alike-row listed t t′ [] a c = a
+alike-row listed t t′ (x ∷ xs) a c =
+    let o = alike-call listed t t′ a (x .call) (x .other) (x .buffer) (c .0) in
+    (o, alike-row (listedAfter listed (x .call) (storeOf t)) _ _ xs (o .stay) (c .1))

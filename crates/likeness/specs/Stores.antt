@@ -9,26 +9,20 @@ use lib.ListN.{length, List·getD-eq-default}
 use lib.Dec.{eqb}
 use borrow.Author.Tests.{eqb-true, not-false}
 use Rattle.records.specs.Numbers.{one, two, four}
-use Rattle.records.specs.Tests.{tested, both, and-right, lt-or-ge, le-or-gt}
+use Rattle.records.specs.Tests.{tested, both, lt-or-ge, le-or-gt}
 use Rattle.meaning.specs.Store.{Store, File, Channel, noFile, noChannel, root, afterAll}
 use Rattle.meaning.specs.Tables.{Tables, storeOf, fileOf, fileCount, channelCount, kindAt, depthAt, lengthAt, channelFileAt, positionAt}
-use Rattle.meaning.specs.Sound.{sound, layoutSound, wellFormed}
 use Rattle.meaning.specs.Run.{Call, meaning, changesOf}
 use Rattle.tables.specs.StoreLaws.{store-kind, store-depth, store-length, store-channel-file, store-channel-position}
 use Rattle.layout.specs.Lengths.{Lengths}
 use Rattle.layout.specs.Layout.{sound-layout}
+use Rattle.lookup.specs.Filed.{sound-well}
 use Rattle.soundness.specs.Use.{three}
-use Rattle.soundness.specs.Well.{Well}
-use Rattle.soundness.specs.WellLaws.{well}
 use Rattle.soundness.specs.WellFacts.{free-none}
 use Rattle.likeness.specs.Alike.{Listed, AlikeStores, Alike, rewrites, isCreate, empties, left, listedAfter}
 use Rattle.likeness.specs.Same.{SameFile, SameStore, equal-file, rewritten-equal}
 use Rattle.likeness.specs.Depths.{directory-unlisted, same-depth}
 use Rattle.likeness.specs.Results.{Given}
-
-pub sound-well : (t : Tables) → sound t ≡ true → Well (storeOf t)
-unfolding sound
-sound-well t e = well (storeOf t) (and-right (layoutSound t) (wellFormed (storeOf t)) e)
 
 -- ---- past the last record all is zero
 
