@@ -10,7 +10,7 @@ use lib.Dec.{eqb}
 use Rattle.meaning.specs.Store.{Store, Change, file, channel, prepared, afterAll}
 use Rattle.meaning.specs.Tables.{Tables, storeOf}
 use Rattle.meaning.specs.Sound.{sound}
-use Rattle.meaning.specs.Run.{Call, Prepare, Room, Create, Open, Unlink, Mkdir, Rmdir, Link, Move, Ls, Close, Fstat, Read, Write, Seek, meaning, changesOf, Answer, numbers, Outcome, run}
+use Rattle.meaning.specs.Run.{Call, Prepare, Room, Create, Open, Unlink, Mkdir, Rmdir, Link, Move, Ls, Close, Fstat, Read, Write, Seek, meaning, changesOf, numbers, Outcome, run}
 
 -- ---- alike stores
 
@@ -54,23 +54,26 @@ rewrites (file g x ∷ changes) f = eqb g f || rewrites changes f
 rewrites (channel c y ∷ changes) f = rewrites changes f
 rewrites (prepared ∷ changes) f = rewrites changes f
 
--- create empties file f
+unfoldable pub isCreate : Call → Bool
+isCreate (Create name) = true
+isCreate Prepare = false
+isCreate Room = false
+isCreate (Open name) = false
+isCreate (Unlink name) = false
+isCreate (Mkdir name) = false
+isCreate (Rmdir name) = false
+isCreate (Link old new) = false
+isCreate (Move old new) = false
+isCreate (Ls name size) = false
+isCreate (Close c) = false
+isCreate (Fstat c) = false
+isCreate (Read c count) = false
+isCreate (Write c bytes) = false
+isCreate (Seek c mode n) = false
+
+-- create empties file f, which its name stands for
 unfoldable pub empties : Call → Store → ℕ → Bool
-empties (Create name) s f = rewrites (changesOf (meaning (Create name) s)) f
-empties Prepare s f = false
-empties Room s f = false
-empties (Open name) s f = false
-empties (Unlink name) s f = false
-empties (Mkdir name) s f = false
-empties (Rmdir name) s f = false
-empties (Link old new) s f = false
-empties (Move old new) s f = false
-empties (Ls name size) s f = false
-empties (Close c) s f = false
-empties (Fstat c) s f = false
-empties (Read c count) s f = false
-empties (Write c bytes) s f = false
-empties (Seek c mode n) s f = false
+empties call s f = isCreate call && rewrites (changesOf (meaning call s)) f
 
 -- the store that a call leaves
 abbrev pub left : Call → Store → Store

@@ -1,24 +1,23 @@
 -- Every call but read and write gives the same on both stores: the same refusal, or the same answer and changes.
-use Prim.Native.Nat.{ℕ, _+_, _*_}
-use mathlib.Core.Path.{_≡_, refl, ap, ap₂, sym, _∙_}
+use Prim.Native.Nat.{ℕ, _*_}
+use mathlib.Core.Path.{_≡_, refl, ap, _∙_}
 use mathlib.Core.List.{List, [], _∷_}
 use mathlib.Core.Option.{Option, none, some}
-use mathlib.Core.Bool.{Bool, true, false, not, _||_}
+use mathlib.Core.Bool.{Bool, true, false, not}
 use lib.ListN.{length}
-use lib.Dec.{ltb, eqb}
-use borrow.Author.Tests.{not-true}
-use Rattle.records.specs.Rows.{pick}
-use Rattle.meaning.specs.Name.{isEmpty, nameCount, listing, syllables, mostSyllables}
-use Rattle.meaning.specs.Store.{Store, File, Change, file, channel, noChannel, channelTo, after, afterAll, noFile, ordinary, directory, isDirectory, isOpen, freeFile, freeChannel, named, front, last, root, held, letGo}
-use Rattle.meaning.specs.Result.{Result, refused, done, unless, onChannel, withSyllables, missing, nowhere, allOpen, allUsed}
-use Rattle.meaning.specs.ChannelCalls.{close, seek, seekTo, lastPosition, fstat, room}
+use lib.Dec.{ltb}
+use borrow.Author.Tests.{not-false}
+use Rattle.meaning.specs.Name.{nameCount, listing, syllables}
+use Rattle.meaning.specs.Store.{Store, Change, file, channel, noChannel, after, afterAll, isDirectory, freeFile, named, letGo}
+use Rattle.meaning.specs.Result.{Result, refused, done, unless, onChannel, withSyllables, missing, nowhere}
+use Rattle.meaning.specs.ChannelCalls.{close, seek, fstat, room}
 use Rattle.meaning.specs.NameCalls.{parent, naming, unnaming, open′, create, link, unlink, withChanges, andThen, move, mkdir, rmdir, ls}
 use Rattle.meaning.specs.declared.Report.{Report}
 use Rattle.meaning.specs.declared.Report.the-variants.{OutShort}
 use Rattle.likeness.specs.Alike.{Listed}
-use Rattle.likeness.specs.Same.{SameFile, SameStore, after-same, after-all}
-use Rattle.likeness.specs.Congruence.{same-kind, same-size, same-held-file, same-posn, same-directory, same-open, directory-bytes, same-free-blocks, same-free-file, same-free-files, same-free-channel, same-free-channels, same-named, same-held, same-letGo, same-missing, same-nowhere, same-all-open, same-all-used}
-use Rattle.likeness.specs.Naming.{missing-none, same-parent, parent-depth, same-naming, same-unnaming, same-naming-fits}
+use Rattle.likeness.specs.Same.{SameStore, after-same, after-all}
+use Rattle.likeness.specs.Congruence.{same-kind, same-size, same-held-file, same-directory, same-open, directory-bytes, same-free-blocks, same-free-file, same-free-files, same-free-channel, same-free-channels, same-named, same-held, same-letGo, same-missing, same-nowhere, same-all-open, same-all-used}
+use Rattle.likeness.specs.Naming.{not-nowhere, same-parent, parent-depth, same-naming, same-unnaming, same-naming-fits}
 
 -- ---- results that are the same
 
@@ -115,7 +114,7 @@ module _ (listed : Listed) (s s′ : Store) (a : SameStore listed s s′) where
   same-unlink bytes =
       same-syllables (syllables bytes) _ _ λ name.
       same-unless _ _ _ _ _ (missings name) λ there.
-      let dir = same-unnaming listed s s′ a name (missing-none s name there) in
+      let dir = same-unnaming listed s s′ a name (not-nowhere s name there) in
       rw (dir, parents name, nameds name, directories (named s′ name), letting (file (parent s′ name) (unnaming s′ name)) (named s′ name))
 
   pub same-link : (old new : List ℕ) → link old new s ≡ link old new s′
@@ -152,18 +151,14 @@ module _ (listed : Listed) (s s′ : Store) (a : SameStore listed s s′) where
 
   -- a directory's bytes, where there is one
   same-dir : (name : List (List ℕ)) → not (isDirectory s′ (named s′ name)) ≡ false → s .file (named s′ name) .bytes ≡ s′ .file (named s′ name) .bytes
-  same-dir name is = directory-bytes listed s s′ a (named s′ name) (directories (named s′ name) ∙ not-not (isDirectory s′ (named s′ name)) is)
-    where
-      not-not : (t : Bool) → not t ≡ false → t ≡ true
-      not-not true h = refl
-      not-not false h = sym h
+  same-dir name is = directory-bytes listed s s′ a (named s′ name) (directories (named s′ name) ∙ not-false (isDirectory s′ (named s′ name)) is)
 
   pub same-rmdir : (bytes : List ℕ) → rmdir bytes s ≡ rmdir bytes s′
   unfolding rmdir
   same-rmdir bytes =
       same-syllables (syllables bytes) _ _ λ name.
       same-unless _ _ _ _ _ (missings name) λ there.
-      let dir = same-unnaming listed s s′ a name (missing-none s name there) in
+      let dir = same-unnaming listed s s′ a name (not-nowhere s name there) in
       rw (dir, parents name, nameds name, directories (named s′ name), same-held listed s s′ a (named s′ name))
       (same-unless _ _ _ _ _ refl λ is. rw (same-dir name is))
 

@@ -1,22 +1,23 @@
 -- What the calls ask of a store is the same for both: what is in use, what is free, names, holders.
-use Prim.Native.Nat.{ℕ, suc, _-_, _<_}
-use mathlib.Core.Path.{_≡_, refl, ap, ap₂, sym, _∙_}
-use mathlib.Core.Logic.{⊎-elim}
-use mathlib.Core.List.{List, [], _∷_, reverse}
-use mathlib.Core.Bool.{Bool, true, false, not, _&&_}
+use Prim.Native.Nat.{ℕ, suc, _-_}
+use mathlib.Core.Path.{_≡_, ap, ap₂, _∙_}
+use mathlib.Core.List.{List}
+use mathlib.Core.Bool.{Bool, true, not, _&&_}
 use native.Mathlib.Omega.{arith}
 use lib.ListN.{length}
-use lib.Dec.{leb, ltb, eqb}
+use lib.Dec.{ltb, eqb}
 use borrow.Author.Tests.{eqb-true, ne-eqb}
-use Rattle.records.specs.Rows.{pick, lowest, howMany, sum}
 use Rattle.records.specs.RowLaws.{lowest-cong, howMany-cong, sum-cong}
-use Rattle.records.specs.Tests.{tested, and-right, and-false}
+use Rattle.records.specs.Tests.{and-right, and-false}
 use Rattle.meaning.specs.File.{needed}
-use Rattle.meaning.specs.Name.{inDirectory, namesIn}
-use Rattle.meaning.specs.Store.{Store, File, Channel, Change, file, noFile, inUse, isDirectory, isOpen, blocksNeeded, freeBlocks, freeFile, freeChannel, freeFiles, freeChannels, within, namedBack, named, names, held, isOrphan, letGo, front}
-use Rattle.meaning.specs.Result.{Result, unless, onChannel, missing, nowhere, allOpen, allUsed, ifFits}
+use Rattle.meaning.specs.Name.{namesIn}
+use Rattle.meaning.specs.Store.{Store, Channel, file, inUse, isDirectory, isOpen, blocksNeeded, freeBlocks, freeFile, freeChannel, freeFiles, freeChannels, named, names, held, isOrphan, letGo, front}
+use Rattle.meaning.specs.Result.{missing, nowhere, allOpen, allUsed}
+use Rattle.trees.specs.AfterFile as after
+use Rattle.trees.specs.Rewrite as trees
+use Rattle.trees.specs.Lookups.{named-cong}
 use Rattle.likeness.specs.Alike.{Listed}
-use Rattle.likeness.specs.Same.{SameFile, SameStore}
+use Rattle.likeness.specs.Same.{SameStore}
 
 module _ (listed : Listed) (s s′ : Store) (a : SameStore listed s s′) where
   -- ---- one file, one channel
@@ -34,12 +35,10 @@ module _ (listed : Listed) (s s′ : Store) (a : SameStore listed s s′) where
   same-posn c = ap (λ (y : Channel). y .posn) (a .channel c)
 
   pub same-use : (f : ℕ) → inUse s f ≡ inUse s′ f
-  unfolding inUse
-  same-use f = rw (a .files, same-kind f)
+  same-use f = after.same-use s′ s (a .files) f (same-kind f)
 
   pub same-directory : (f : ℕ) → isDirectory s f ≡ isDirectory s′ f
-  unfolding isDirectory
-  same-directory f = rw (same-use f, same-kind f)
+  same-directory f = after.same-directory s′ s (a .files) f (same-kind f)
 
   pub same-open : (c : ℕ) → isOpen s c ≡ isOpen s′ c
   unfolding isOpen
@@ -51,14 +50,6 @@ module _ (listed : Listed) (s s′ : Store) (a : SameStore listed s s′) where
   directory-bytes d is =
       let k : s .file d .kind ≡ 2 = eqb-true (s .file d .kind) 2 (and-right (inUse s d) (eqb (s .file d .kind) 2) is) in
       a .file d .bytes (rw (ne-eqb (s .file d .kind) 1 (omega arith)) (and-false (listed d)))
-
-  -- what is asked of directories alone
-  by-directory : (d z : ℕ) (g : List ℕ → ℕ) → pick (isDirectory s d) (g (s .file d .bytes)) z ≡ pick (isDirectory s′ d) (g (s′ .file d .bytes)) z
-  by-directory d z g =
-      ⊎-elim
-      (λ (is : isDirectory s d ≡ true). rw (← same-directory d, is) (ap g (directory-bytes d is)))
-      (λ (isnt : isDirectory s d ≡ false). rw (← same-directory d, isnt))
-      (tested (isDirectory s d))
 
   -- ---- what is free
 
@@ -94,27 +85,14 @@ module _ (listed : Listed) (s s′ : Store) (a : SameStore listed s s′) where
 
   -- ---- names and holders
 
-  pub same-within : (d : ℕ) (syllable : List ℕ) → within s d syllable ≡ within s′ d syllable
-  unfolding within
-  same-within d syllable = by-directory d 0 (λ dir. inDirectory dir syllable)
-
-  same-back : (name : List (List ℕ)) → namedBack s name ≡ namedBack s′ name
-  unfolding namedBack
-  same-back [] = refl
-  same-back (last ∷ front) = same-within (namedBack s front) last ∙ ap (λ d. within s′ d last) (same-back front)
+  same-bytes : (d : ℕ) → isDirectory s′ d ≡ true → s .file d .bytes ≡ s′ .file d .bytes
+  same-bytes d is = directory-bytes d (same-directory d ∙ is)
 
   pub same-named : (name : List (List ℕ)) → named s name ≡ named s′ name
-  unfolding named
-  same-named name = same-back (reverse name)
+  same-named = named-cong s′ s same-directory same-bytes
 
   pub same-names : (f : ℕ) → names s f ≡ names s′ f
-  unfolding names
-  same-names f =
-      sum-cong (s .fileCount) (count s) (count s′) (λ i h. by-directory (suc i) 0 (λ dir. namesIn dir f))
-      ∙ ap (λ n. sum n (count s′)) (a .files)
-    where
-      count : Store → ℕ → ℕ
-      count s i = pick (isDirectory s (suc i)) (namesIn (s .file (suc i) .bytes) f) 0
+  same-names f = trees.same-names s′ s f (a .files) same-directory (λ d is. ap (λ dir. namesIn dir f) (same-bytes d is))
 
   pub same-held : (f : ℕ) → held s f ≡ held s′ f
   unfolding held

@@ -1,44 +1,28 @@
 -- The directory that a name lies in, and that directory with a record written anew, are the same for both.
-use Prim.Native.Nat.{ℕ, zero, suc, _+_, _-_, _<_}
-use mathlib.Core.Path.{_≡_, refl, ap, ap₂, sym, _∙_}
+use Prim.Native.Nat.{ℕ}
+use mathlib.Core.Path.{_≡_, refl, ap, _∙_}
 use mathlib.Core.Logic.{_⊎_, inl, inr, ⊎-elim}
 use mathlib.Core.List.{List, [], _∷_}
-use mathlib.Core.Bool.{Bool, true, false, not, _&&_, true≢false}
+use mathlib.Core.Bool.{true, false}
 use native.Mathlib.Omega.{arith}
-use lib.ListN.{length, take, getD}
-use lib.Dec.{eqb}
-use borrow.Author.Tests.{eqb-true}
-use Rattle.records.specs.Rows.{pick}
+use lib.ListN.{length}
+use borrow.Author.Tests.{not-false}
 use Rattle.records.specs.Tests.{tested}
-use Rattle.meaning.specs.Name.{inDirectory, entry, written, recordNamed, recordForNew, withEntry, blankRecord}
-use Rattle.meaning.specs.Store.{Store, File, isDirectory, within, namedBack, named, front, last, root, directory}
-use Rattle.meaning.specs.Result.{Result, unless, missing, nowhere, ifFits}
+use Rattle.meaning.specs.Name.{entry, written, withEntry, blankRecord}
+use Rattle.meaning.specs.Store.{Store, File, isDirectory, namedBack, named, front, last, root, directory}
+use Rattle.meaning.specs.Result.{Result, missing, nowhere, ifFits}
 use Rattle.meaning.specs.NameCalls.{parent, rewritten, recordFor, naming, unnaming, ifNamingFits}
-use Rattle.lookup.specs.Walk.{named-last}
+use Rattle.trees.specs.Standing.{missing-some, parent-directory}
 use Rattle.likeness.specs.Alike.{Listed}
-use Rattle.likeness.specs.Same.{SameFile, SameStore}
-use Rattle.likeness.specs.Congruence.{same-directory, directory-bytes, same-free-blocks, same-named, same-missing}
+use Rattle.likeness.specs.Same.{SameStore}
+use Rattle.likeness.specs.Congruence.{directory-bytes, same-free-blocks, same-named, same-missing}
 
 -- ---- a name's directory, in one store
 
 module _ (s : Store) where
-  -- only a directory names anything
-  within-directory : (d : ℕ) (syllable : List ℕ) → eqb (within s d syllable) 0 ≡ false → isDirectory s d ≡ true
-  unfolding within
-  within-directory d syllable = go (isDirectory s d)
-    where
-      go : (t : Bool) → eqb (pick t (inDirectory (s .file d .bytes) syllable) 0) 0 ≡ false → t ≡ true
-      go true e = refl
-      go false e = absurd (true≢false e)
-
-  named-directory : (name : List (List ℕ)) → 0 < length name → missing s name ≡ false → isDirectory s (parent s name) ≡ true
-  unfolding missing parent
-  named-directory name some e =
-      within-directory (named s (front name)) (last name) (rw (named-last s name some) at e)
-
-  pub missing-none : (name : List (List ℕ)) → missing s name ≡ false → nowhere s name ≡ false
+  pub not-nowhere : (name : List (List ℕ)) → missing s name ≡ false → nowhere s name ≡ false
   unfolding nowhere
-  missing-none name e = rw e
+  not-nowhere name e = rw e
 
   -- a new name has a directory, and so has one that stands for a file, unless it is the root's
   pub parent-there : (name : List (List ℕ)) → nowhere s name ≡ false → (parent s name ≡ root) ⊎ (isDirectory s (parent s name) ≡ true)
@@ -46,12 +30,8 @@ module _ (s : Store) where
   parent-there [] e = inl refl
   parent-there (x ∷ xs) e = inr (⊎-elim
       (λ (m : missing s (x ∷ xs) ≡ true). not-false (isDirectory s (named s (front (x ∷ xs)))) (rw m at e))
-      (λ (m : missing s (x ∷ xs) ≡ false). named-directory (x ∷ xs) (omega arith) m)
+      (λ (m : missing s (x ∷ xs) ≡ false). parent-directory s (x ∷ xs) (omega arith) (missing-some s (x ∷ xs) m))
       (tested (missing s (x ∷ xs))))
-    where
-      not-false : (t : Bool) → not t ≡ false → t ≡ true
-      not-false true h = refl
-      not-false false h = absurd (true≢false h)
 
 -- ---- the same in both
 

@@ -1,15 +1,15 @@
 -- Stores that differ at most in the bytes of listed ordinary files, depths included, and that changes keep them so.
 use Prim.Native.Nat.{ℕ}
-use mathlib.Core.Path.{_≡_, refl, ap, sym, _∙_}
+use mathlib.Core.Path.{_≡_, refl, ap, sym}
 use mathlib.Core.Logic.{_≢_, _⊎_, inl, inr, ⊎-elim}
 use mathlib.Core.List.{List, [], _∷_}
-use mathlib.Core.Bool.{Bool, true, false, _&&_, _||_, true≢false}
+use mathlib.Core.Bool.{true, false, _&&_, _||_, true≢false}
 use lib.ListN.{length}
 use lib.Dec.{eqb}
 use borrow.Author.Tests.{eq-eqb, ne-eqb, eqb-true}
 use Rattle.records.specs.Rows.{pick}
-use Rattle.records.specs.Tests.{same-or-not, tested, either}
-use Rattle.meaning.specs.Store.{Store, File, Channel, Change, file, channel, prepared, root, after, afterAll}
+use Rattle.records.specs.Tests.{same-or-not, either}
+use Rattle.meaning.specs.Store.{Store, File, Change, file, channel, prepared, root, after, afterAll}
 use Rattle.likeness.specs.Alike.{Listed, rewrites}
 
 pub record SameFile (listed : Listed) (f : ℕ) (x x′ : File) : Type 0 where
