@@ -5,3 +5,6 @@ pub mod Naming
 pub mod Filing
 pub mod View
 pub mod FileLaws
+pub mod ViewLaws
+pub mod Invariants
+pub mod StepLaws
