@@ -7,7 +7,6 @@ use lib.ListN.{length}
 use Rattle.source.specs.Sets.{_⇸_, _∈dom_, _⊕_, _◁_, _⩤_, _⟼_, the, _··_, seq}
 
 infixl 9 _after_ _shift_
-
 -- 4.3.1: a file is a sequence of bytes
 abbrev pub FILE : Type 0
 FILE = List ℕ

@@ -12,7 +12,6 @@ use Rattle.source.specs.Channels.{CHAN, CID, CSTORE, openCS, closeCS, re
 use Rattle.source.specs.Naming.{SYL, NAME, NSTORE, NS, createNS, lookupNS, destroyNS, lsNS, dirstored, linkNS}
 
 infixl 3 _⨾_
-
 -- ---- the state
 
 pub record State : Type 0 where

@@ -7,4 +7,13 @@ pub mod View
 pub mod FileLaws
 pub mod ViewLaws
 pub mod Invariants
+pub mod StateLaws
 pub mod StepLaws
+pub mod Reach
+pub mod Departures
+pub mod Freeing
+pub mod Accepted
+pub mod ChannelStatements
+pub mod Moves
+pub mod ChannelProofs
+pub mod OpenClose

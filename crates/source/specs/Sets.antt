@@ -15,7 +15,6 @@ infixl 5 _⊕_
 infixr 6 _◁_ _⩤_
 infix 7 _⟼_
 infix 8 _··_
-
 -- a partial function
 abbrev pub _⇸_ : Type 0 → Type 0 → Type 0
 A ⇸ B = A → Option B

@@ -41,11 +41,11 @@ module _ (s : Store) (c : ℕ) (y : Channel) where
   unfolding after inUse
   channel-files = refl
 
-  channel-dirs : (d : ℕ) → isDirectory s′ d ≡ isDirectory s d
+  pub channel-dirs : (d : ℕ) → isDirectory s′ d ≡ isDirectory s d
   unfolding after isDirectory inUse
   channel-dirs d = refl
 
-  channel-bytes : (d : ℕ) → isDirectory s d ≡ true → s′ .file d .bytes ≡ s .file d .bytes
+  pub channel-bytes : (d : ℕ) → isDirectory s d ≡ true → s′ .file d .bytes ≡ s .file d .bytes
   unfolding after
   channel-bytes d is = refl
 
