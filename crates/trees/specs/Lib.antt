@@ -6,3 +6,4 @@ pub mod Standing
 pub mod Lookups
 pub mod Depth
 pub mod Naming
+pub mod Given

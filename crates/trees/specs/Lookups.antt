@@ -119,16 +119,16 @@ module _ (s : Store) (d i : ℕ) (r : List ℕ) (k : KeepsDirectories s d i r) w
   unfolding named
   named-same name is = back-same (reverse name) is
 
+  pub parent-same : (name : List (List ℕ)) → isDirectory s (parent s name) ≡ true → parent s′ name ≡ parent s name
+  unfolding parent
+  parent-same name is = named-same (front name) is
+
   -- ---- a name whose directory is there
 
   module _ (name : List (List ℕ)) (some : 0 < length name) (is : isDirectory s (parent s name) ≡ true) where
-    pub parent-same : parent s′ name ≡ parent s name
-    unfolding parent
-    parent-same = named-same (front name) is
-
     in-parent : named s′ name ≡ within s′ (parent s name) (last name)
     unfolding parent
-    in-parent = named-last s′ name some ∙ ap (λ (e : ℕ). within s′ e (last name)) parent-same
+    in-parent = named-last s′ name some ∙ ap (λ (e : ℕ). within s′ e (last name)) (parent-same name is)
 
     was-in-parent : named s name ≡ within s (parent s name) (last name)
     unfolding parent

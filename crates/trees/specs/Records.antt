@@ -3,7 +3,7 @@ use Prim.Native.Nat.{ℕ, suc, _+_, _-_, _*_, _/_, _≤_, _<_, max}
 use mathlib.Core.Path.{_≡_, refl, ap, sym, _∙_}
 use mathlib.Core.Logic.{_≢_, ⊎-elim}
 use mathlib.Core.List.{List}
-use mathlib.Core.Bool.{Bool, true, false, not}
+use mathlib.Core.Bool.{Bool, true, false, not, true≢false}
 use native.Mathlib.Omega.{arith}
 use lib.ListN.{length}
 use lib.Dec.{ltb}
@@ -74,7 +74,7 @@ module _ (dir r : List ℕ) (n i : ℕ) (whole : length dir ≡ 16 * n) (size : 
       (λ h. ap (λ (x : Entry). x .name) (entry-other dir r n i whole size within j other) ∙ named-has dir name (omega (arith, count)))
     where
       differs : (k : ℕ) → k < recordNamed dir name → entryAt dir k .name ≢ name
-      differs k h e = mathlib.Core.Bool.true≢false (sym (is-same (entryAt dir k .name) name e) ∙ named-first dir name k h)
+      differs k h e = true≢false (sym (is-same (entryAt dir k .name) name e) ∙ named-first dir name k h)
 
   -- the record written has the name that it was given, if no other has it
   pub named-own : ((j : ℕ) → j < i → entryAt dir j .name ≢ entryIn r .name) → recordNamed (withEntry dir i r) (entryIn r .name) ≡ i

@@ -28,12 +28,13 @@ use Rattle.trees.specs.Entries.{not-blank, only, found-record, no-record
 -- ---- a name in its directory
 
 -- its directory is there, a row of whole records; its record is or goes at recordFor, and no other record has the name;
--- that record names what the name stands for, 0 where it stands for nothing
+-- that record names what the name stands for, 0 where it stands for nothing, and has the name where it stands for something
 pub record Place (s : Store) (n : List (List ℕ)) : Type 0 where
   pub spelled : isSyllable (last n) ≡ true
   pub directory : isDirectory s (parent s n) ≡ true
   pub whole : length (s .file (parent s n) .bytes) ≡ 16 * recordCount (s .file (parent s n) .bytes)
   pub file : entryAt (s .file (parent s n) .bytes) (recordFor s n) .file ≡ named s n
+  pub own : named s n ≢ 0 → entryAt (s .file (parent s n) .bytes) (recordFor s n) .name ≡ last n
   pub within : recordFor s n ≤ recordCount (s .file (parent s n) .bytes)
   pub others : (j : ℕ) → j < recordCount (s .file (parent s n) .bytes) → j ≢ recordFor s n
       → entryAt (s .file (parent s n) .bytes) j .name ≢ last n
@@ -127,6 +128,7 @@ module _ (s : Store) (w : Well s) (name : List (List ℕ)) (spelled : isSyllable
             directory = its-directory;
             whole = directory-length s w (parent s name) its-directory;
             file = rw at-named is;
+            own = rw at-named (λ z. has);
             within = rw at-named (omega (arith, found));
             others = rw at-named (λ j h n. only s w (parent s name) its-directory (last name) spelled (recordNamed dir (last name)) j found h (λ e. n (sym e)) has);
           };
@@ -180,6 +182,7 @@ module _ (s : Store) (w : Well s) (name : List (List ℕ)) (spelled : isSyllable
             directory = new-directory;
             whole = directory-length s w (parent s name) new-directory;
             file = rw at-new (blank-file dir (recordForNew dir) new-blank ∙ sym (missing-none s name gone));
+            own = λ there. absurd (there (missing-none s name gone));
             within = rw at-new new-within;
             others = λ j h n. none-has j h;
           };

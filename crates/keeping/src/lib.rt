@@ -1,0 +1,1 @@
+// Every call keeps the rules of a sound store: laws in specs/.
