@@ -23,7 +23,8 @@ use Rattle.source.specs.ViewLaws.{numbered-is, numbered-some, numbered-n
 use Rattle.source.specs.Invariants.{names-front}
 use Rattle.source.specs.StepLaws.{file-channels, file-names, file-dropped}
 use Rattle.source.specs.StateLaws.{value, used-same}
-use Rattle.source.specs.Reach.{one-passes, Names, has-names, name-record, Tree, name-of}
+use Rattle.source.specs.NamedBy.{one-passes, name-counts}
+use Rattle.source.specs.Tree.{Tree, name-of}
 
 -- ---- a channel that holds a file
 
@@ -90,7 +91,7 @@ module _ (s : Store) (f : ℕ) where
   orphan-unused other e (by-name name is) =
       let (u, kind, nameless, free) = orphan-facts e in
       let there : f ≢ 0 = λ (z : f ≡ 0). omega (arith, used s f u .some) in
-      omega (arith, has-names s f (name-record s f name (numbered-is (named s name) f is) there other))
+      omega (arith, name-counts s f name (numbered-is (named s name) f is) there other)
   orphan-unused other e (by-channel c chan is its) =
       let (u, kind, nameless, free) = orphan-facts e in
       let held-by : s .channel c .file ≡ f = ap (λ (y : CHAN). y .fid) (channel-is s c chan is) ∙ its in

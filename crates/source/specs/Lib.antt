@@ -9,7 +9,8 @@ pub mod ViewLaws
 pub mod Invariants
 pub mod StateLaws
 pub mod StepLaws
-pub mod Reach
+pub mod NamedBy
+pub mod Tree
 pub mod Departures
 pub mod Freeing
 pub mod Accepted
@@ -17,3 +18,5 @@ pub mod ChannelStatements
 pub mod Moves
 pub mod ChannelProofs
 pub mod OpenClose
+pub mod Renamed
+pub mod NameSteps

@@ -19,7 +19,7 @@ unchanged x y z a b = record { names = b .names ∙ a .names; directories = b .d
 
 -- a value put where it is already
 pub over-own : {B : Type 0} (f : ℕ ⇸ B) (a : ℕ) (b : B) → f a ≡ some b → f ≡ f ⊕ the a ⟼ b
-over-own f a b e = changed f f a b e (λ x n. refl)
+over-own f a b e = changed f f a (λ x n. refl) b e
 
 -- t is s after what a call did to files: names and channels are as they were, and no file is lost
 pub record Filed (s t : Store) : Type 0 where

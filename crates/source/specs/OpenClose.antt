@@ -28,7 +28,7 @@ use Rattle.source.specs.ViewLaws.{numbered-some, file-there, channel-the
 use Rattle.source.specs.Invariants.{filing-system, name-used}
 use Rattle.source.specs.StateLaws.{value, defined, without-value, still-filing}
 use Rattle.source.specs.StepLaws.{channel-files, channel-dirs, channel-bytes, channel-names, channel-dropped}
-use Rattle.source.specs.Reach.{Tree, same-tree, well-tree}
+use Rattle.source.specs.Tree.{Tree, same-tree, well-tree}
 use Rattle.source.specs.Freeing.{let-go}
 use Rattle.source.specs.Moves.{filed, put-names, put-channel, put-change}
 use Rattle.source.specs.Accepted.{Ready, Accepted, accepted, past, spelled}

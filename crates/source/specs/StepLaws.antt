@@ -58,14 +58,14 @@ module _ (s : Store) (c : ℕ) (y : Channel) where
 
   pub channel-put : c < s .channelCount → y .file ≢ 0 → view s′ .cstore ≡ view s .cstore ⊕ the c ⟼ chanOf y
   unfolding isOpen after
-  channel-put below some-file = changed (view s .cstore) (view s′ .cstore) c (chanOf y) here open-other
+  channel-put below some-file = changed (view s .cstore) (view s′ .cstore) c open-other (chanOf y) here
     where
       here : view s′ .cstore c ≡ some (chanOf y)
       here = rw (eq-eqb c c refl, lt-ltb c (s .channelCount) below, ne-eqb (y .file) 0 some-file)
 
   pub channel-dropped : y .file ≡ 0 → view s′ .cstore ≡ the c ⩤ view s .cstore
   unfolding isOpen after
-  channel-dropped none-held = removed (view s .cstore) (view s′ .cstore) c here open-other
+  channel-dropped none-held = removed (view s .cstore) (view s′ .cstore) c open-other here
     where
       here : view s′ .cstore c ≡ none
       here = rw (eq-eqb c c refl, none-held, and-false (ltb c (s .channelCount)))
@@ -115,7 +115,7 @@ module _ (s : Store) (f : ℕ) (x : File) where
     file-names = names-stay s t file-dirs file-bytes
 
   pub file-put : 0 < f → f ≤ s .fileCount → x .kind ≢ 0 → view t .fstore ≡ view s .fstore ⊕ the f ⟼ x .bytes
-  file-put from-one to-last there = changed (view s .fstore) (view t .fstore) f (x .bytes) here stored-other
+  file-put from-one to-last there = changed (view s .fstore) (view t .fstore) f stored-other (x .bytes) here
     where
       here : view t .fstore f ≡ some (x .bytes)
       here =
@@ -125,7 +125,7 @@ module _ (s : Store) (f : ℕ) (x : File) where
 
   pub file-dropped : x .kind ≡ 0 → view t .fstore ≡ the f ⩤ view s .fstore
   unfolding inUse after
-  file-dropped gone = removed (view s .fstore) (view t .fstore) f here stored-other
+  file-dropped gone = removed (view s .fstore) (view t .fstore) f stored-other here
     where
       here : view t .fstore f ≡ none
       here = rw (eq-eqb f f refl, gone, and-false (ltb 0 f && leb f (s .fileCount)))

@@ -1,9 +1,9 @@
 -- What the source's state of a store says, in the store's own facts.
 use Prim.Native.Nat.{ℕ, zero, suc, _+_, _≤_, _<_}
 use mathlib.Core.Path.{_≡_, refl, ap, sym, _∙_, fun-ext}
-use mathlib.Core.Logic.{_≢_, ⊎-elim}
+use mathlib.Core.Logic.{_≢_, _⊎_, inl, inr, ⊎-elim}
 use mathlib.Core.List.{List, [], _∷_}
-use mathlib.Core.Bool.{Bool, true, false, _&&_}
+use mathlib.Core.Bool.{Bool, true, false, _&&_, true≢false}
 use mathlib.Core.Option.{Option, none, some, Option·some-injective, Option·none-ne-some}
 use native.Mathlib.Omega.{arith}
 use lib.ListN.{length}
@@ -14,7 +14,7 @@ use Rattle.records.specs.Tests.{and-left, and-right, and-both}
 use Rattle.names.specs.ByteLaws.{same-is, is-same}
 use Rattle.meaning.specs.Name.{same}
 use Rattle.meaning.specs.Store.{Store, Channel, inUse, isDirectory, isOpen, named}
-use Rattle.source.specs.Sets.{_⇸_, ℙ, _⟼_, _⊕_, _⩤_, _∈dom_, _∉dom_, the, sameName}
+use Rattle.source.specs.Sets.{_⇸_, ℙ, _⟼_, _⊕_, _⩤_, _∈dom_, _∉dom_, the, sameName, theName}
 use Rattle.source.specs.Channels.{CHAN}
 use Rattle.source.specs.View.{numbered, chanOf, view}
 
@@ -96,12 +96,12 @@ unfolding sameName
 same-name [] = refl
 same-name (x ∷ a) = and-both (same x x) (sameName a a) (is-same x x refl) (same-name a)
 
-pub not-same-name : (a b : List (List ℕ)) → a ≢ b → sameName a b ≡ false
-not-same-name a b n = go (sameName a b) refl
+pub same-name-or-not : (a b : List (List ℕ)) → (a ≡ b) ⊎ (a ≢ b)
+same-name-or-not a b = go (sameName a b) refl
   where
-    go : (t : Bool) → sameName a b ≡ t → t ≡ false
-    go true e = absurd (n (name-same a b e))
-    go false e = refl
+    go : (t : Bool) → sameName a b ≡ t → (a ≡ b) ⊎ (a ≢ b)
+    go true e = inl (name-same a b e)
+    go false e = inr (λ q. true≢false (sym (same-name b) ∙ ap (λ (x : List (List ℕ)). sameName x b) (sym q) ∙ e))
 
 -- a name with a syllable
 pub more-syllables : (name : List (List ℕ)) → name ≢ [] → 0 < length name
@@ -111,19 +111,38 @@ more-syllables (x ∷ name) n = omega arith
 pub no-more : (name : List (List ℕ)) → 0 < length name → name ≢ []
 no-more name h e = let z : length name ≡ 0 = ap length e in omega arith
 
--- ---- a partial function with one value changed, or taken away
+-- ---- a partial function with values changed, or taken away
 
-module _ {B : Type 0} (f g : ℕ ⇸ B) (a : ℕ) where
-  pub changed : (b : B) → g a ≡ some b → ((x : ℕ) → x ≢ a → g x ≡ f x) → g ≡ f ⊕ the a ⟼ b
-  changed b here others = fun-ext (λ x. go x (eqb x a) refl)
+module _ {A B : Type 0} (f g : A ⇸ B) (S : ℙ A) (others : (x : A) → S x ≡ false → g x ≡ f x) where
+  put-where : (b : B) → ((x : A) → S x ≡ true → g x ≡ some b) → g ≡ f ⊕ S ⟼ b
+  put-where b here = fun-ext (λ x. go x (S x) refl)
     where
-      go : (x : ℕ) (t : Bool) → eqb x a ≡ t → g x ≡ (f ⊕ the a ⟼ b) x
-      go x true e = rw e (ap g (eqb-true x a e) ∙ here)
-      go x false e = rw e (others x (eqb-false x a e))
+      go : (x : A) (t : Bool) → S x ≡ t → g x ≡ (f ⊕ S ⟼ b) x
+      go x true e = rw e (here x e)
+      go x false e = rw e (others x e)
 
-  pub removed : g a ≡ none → ((x : ℕ) → x ≢ a → g x ≡ f x) → g ≡ the a ⩤ f
-  removed here others = fun-ext (λ x. go x (eqb x a) refl)
+  drop-where : ((x : A) → S x ≡ true → g x ≡ none) → g ≡ S ⩤ f
+  drop-where here = fun-ext (λ x. go x (S x) refl)
     where
-      go : (x : ℕ) (t : Bool) → eqb x a ≡ t → g x ≡ (the a ⩤ f) x
-      go x true e = rw e (ap g (eqb-true x a e) ∙ here)
-      go x false e = rw e (others x (eqb-false x a e))
+      go : (x : A) (t : Bool) → S x ≡ t → g x ≡ (S ⩤ f) x
+      go x true e = rw e (here x e)
+      go x false e = rw e (others x e)
+
+-- at one number
+module _ {B : Type 0} (f g : ℕ ⇸ B) (a : ℕ) (others : (x : ℕ) → x ≢ a → g x ≡ f x) where
+  pub changed : (b : B) → g a ≡ some b → g ≡ f ⊕ the a ⟼ b
+  changed b here = put-where f g (the a) (λ x e. others x (eqb-false x a e)) b (λ x e. ap g (eqb-true x a e) ∙ here)
+
+  pub removed : g a ≡ none → g ≡ the a ⩤ f
+  removed here = drop-where f g (the a) (λ x e. others x (eqb-false x a e)) (λ x e. ap g (eqb-true x a e) ∙ here)
+
+-- at one name
+module _ {B : Type 0} (f g : List (List ℕ) ⇸ B) (a : List (List ℕ)) (others : (x : List (List ℕ)) → x ≢ a → g x ≡ f x) where
+  other-names : (x : List (List ℕ)) → sameName x a ≡ false → g x ≡ f x
+  other-names x e = others x (λ q. true≢false (sym (same-name a) ∙ ap (λ (y : List (List ℕ)). sameName y a) (sym q) ∙ e))
+
+  pub renamed : (b : B) → g a ≡ some b → g ≡ f ⊕ theName a ⟼ b
+  renamed b here = put-where f g (theName a) other-names b (λ x e. ap g (name-same x a e) ∙ here)
+
+  pub unnamed : g a ≡ none → g ≡ theName a ⩤ f
+  unnamed here = drop-where f g (theName a) other-names (λ x e. ap g (name-same x a e) ∙ here)
