@@ -1,5 +1,5 @@
 -- What a statement about an accepted call says, and how it is proved.
-use Prim.Native.Nat.{ℕ, _<_}
+use Prim.Native.Nat.{ℕ, _≤_, _<_}
 use mathlib.Core.Path.{_≡_, refl, subst, sym}
 use mathlib.Core.List.{List}
 use mathlib.Core.Bool.{Bool, true, false, _||_, true≢false}
@@ -9,10 +9,11 @@ use Rattle.meaning.specs.Result.{Result, refused, done, unless, withSyllables}
 use Rattle.meaning.specs.declared.Report.{Report}
 use Rattle.soundness.specs.Well.{Well}
 
--- a store that calls take: well formed, with at least one file, the root
+-- a store that calls take: well formed, with 1 to 64 files
 pub record Ready (s : Store) : Type 0 where
   pub well : Well s
   pub some-file : 0 < s .fileCount
+  pub few-files : s .fileCount ≤ 64
 
 -- where the call is accepted, this holds of the answer's numbers, the bytes for the lent buffer, and the changes
 unfoldable pub Accepted : Result → (List ℕ → List ℕ → List Change → Type 0) → Type 0

@@ -4,6 +4,7 @@ pub mod Channels
 pub mod Naming
 pub mod Filing
 pub mod View
+pub mod Departures
 pub mod FileLaws
 pub mod ViewLaws
 pub mod Invariants
@@ -11,7 +12,6 @@ pub mod StateLaws
 pub mod StepLaws
 pub mod NamedBy
 pub mod Tree
-pub mod Departures
 pub mod Freeing
 pub mod Accepted
 pub mod ChannelStatements
@@ -20,3 +20,7 @@ pub mod ChannelProofs
 pub mod OpenClose
 pub mod Renamed
 pub mod NameSteps
+pub mod Encoding
+pub mod NameStatements
+pub mod Unlinking
+pub mod Linking

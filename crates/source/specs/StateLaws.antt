@@ -11,6 +11,7 @@ use Rattle.source.specs.Sets.{_⇸_, ℙ, _∈dom_, above, _⊕_, _⩤_,
 use Rattle.source.specs.Files.{FSTORE}
 use Rattle.source.specs.Channels.{CHAN, CSTORE, AS, ΔAS}
 use Rattle.source.specs.Naming.{NAME, NSTORE, NS}
+use Rattle.source.specs.Departures.{freeing, stays, goes, replacing, nothing, something}
 use Rattle.source.specs.Filing.{State, Used, by-name, by-channel, FS, ΔFS, ΞNS}
 
 -- ---- values of partial functions
@@ -80,3 +81,14 @@ module _ (x x′ : State) (fs : FS x) (same : ΞNS x x′) where
       all : (f : ℕ) → Used x′ f → f ∈dom x′ .fstore
       all f (by-name name e) = kept f (fs .used f (by-name name (sym (value (same .names) name) ∙ e)))
       all f (by-channel cid chan e is) = rw is at (refers cid chan e)
+
+-- ---- freeing leaves names and channels
+
+module _ (fid : ℕ) (x x′ : State) where
+  pub freeing-names : freeing fid x x′ → ΞNS x x′
+  freeing-names (stays u e) = record { names = ap (λ (y : State). y .nstore) e; directories = ap (λ (y : State). y .dnames) e }
+  freeing-names (goes h) = h .names
+
+pub replacing-names : (old : State) (name : NAME) (x x′ : State) → replacing old name x x′ → ΞNS x x′
+replacing-names old name x x′ (nothing gone e) = record { names = ap (λ (y : State). y .nstore) e; directories = ap (λ (y : State). y .dnames) e }
+replacing-names old name x x′ (something fid is h) = freeing-names fid x x′ h
