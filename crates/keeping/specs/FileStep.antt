@@ -49,10 +49,10 @@ module _ (s : Store) (g : ℕ) (x : File) (w : Refiled s g x) where
   pub other-directory : (f : ℕ) → f ≢ g → isDirectory s′ f ≡ isDirectory s f
   other-directory f o = same-directory s s′ count-same f (other-kind f o)
 
-  own-use : x .kind ≢ 0 → inUse s′ g ≡ true
+  pub own-use : x .kind ≢ 0 → inUse s′ g ≡ true
   own-use k = of-used s′ g (record { some = w .from-one; within = rw count-same (w .to-last); kind = rw (file-changed s g x) k })
 
-  own-kind : isDirectory s′ g ≡ true → x .kind ≡ 2
+  pub own-kind : isDirectory s′ g ≡ true → x .kind ≡ 2
   own-kind is = sym (ap (λ (y : File). y .kind) (file-changed s g x)) ∙ directory-kind s′ g is
 
   own-bytes : isDirectory s′ g ≡ true → s′ .file g .bytes ≡ []

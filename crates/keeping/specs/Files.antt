@@ -14,10 +14,12 @@ use Rattle.meaning.specs.File.{longest}
 use Rattle.meaning.specs.Name.{isEmpty}
 use Rattle.meaning.specs.Store.{Store, File, Change, file, after, afterAll, noFile, ordinary, root, inUse, isDirectory, names, held, isOrphan, letGo}
 use Rattle.names.specs.ByteLaws.{not-false-true}
-use Rattle.soundness.specs.Use.{four, used, directory-kind, not-directory}
+use Rattle.soundness.specs.Use.{used, directory-kind, not-directory}
 use Rattle.soundness.specs.Well.{FreeFile, OrdinaryFile, FileForm, as-free, as-ordinary, Well}
 use Rattle.soundness.specs.WellFacts.{root-directory, form-ordinary}
+use Rattle.layout.specs.Fits.{FitsAll}
 use Rattle.trees.specs.AfterFile.{file-changed, held-file}
+use Rattle.trees.specs.LetGo.{Orphan, orphan, let-going}
 use Rattle.keeping.specs.Shape.{Shape, Counted, shape, counted, well-again, count-in}
 use Rattle.keeping.specs.References.{unused-unnamed}
 use Rattle.keeping.specs.Sure.{Sure, smaller-fits}
@@ -89,24 +91,6 @@ module _ (s : Store) (g : ℕ) (h : Shape s) (c : Counted g s) where
       (λ is other. absurd (omega (arith, directory-kind s′ g is)))
       (λ is isnt. let u = used s′ g is in absurd (u .kind none)))
 
-  -- what an orphan is
-  record Orphan : Type 0 where
-    in-use : inUse s g ≡ true
-    kind : s .file g .kind ≡ 1
-    unnamed : names s g ≡ 0
-    unheld : held s g ≡ false
-
-  orphan : isOrphan s g ≡ true → Orphan
-  unfolding isOrphan
-  orphan e =
-      let (in-use, kind, unnamed, unheld) = four (inUse s g) (eqb (s .file g .kind) 1) (eqb (names s g) 0) (not (held s g)) e in
-      record {
-        in-use = in-use;
-        kind = eqb-true (s .file g .kind) 1 kind;
-        unnamed = eqb-true (names s g) 0 unnamed;
-        unheld = not-true (held s g) unheld;
-      }
-
   -- an ordinary file in use that is no orphan has a name or a channel
   no-orphan : isOrphan s g ≡ false → inUse s g ≡ true → s .file g .kind ≡ 1 → (0 < names s g) ⊎ (held s g ≡ true)
   unfolding isOrphan
@@ -119,7 +103,7 @@ module _ (s : Store) (g : ℕ) (h : Shape s) (c : Counted g s) where
       (same-or-not (names s g) 0))
       (tested (held s g))
 
-  orphan-refiled : Orphan → Refiled s g noFile
+  orphan-refiled : Orphan s g → Refiled s g noFile
   orphan-refiled o =
       let u = used s g (o .in-use) in
       record {
@@ -134,21 +118,25 @@ module _ (s : Store) (g : ℕ) (h : Shape s) (c : Counted g s) where
         unheld = λ k. o .unheld;
       }
 
+  let-go-fits : FitsAll s (letGo s g)
+  unfolding letGo
+  let-go-fits = go (isOrphan s g) refl
+    where
+      go : (t : Bool) → isOrphan s g ≡ t → FitsAll s (pick t (file g noFile ∷ []) [])
+      go true e =
+          let u = used s g (orphan s g e .in-use) in
+          (smaller-fits s g noFile (u .some) (u .within) (λ l. absurd (omega arith)) (omega arith), tt)
+      go false e = tt
+
   -- a directory has the name that it needs; an ordinary file goes if it has neither name nor channel
   pub let-go : (isDirectory s g ≡ true → g ≢ root → names s g ≡ 1) → Sure s (letGo s g)
-  unfolding letGo afterAll
-  let-go once = go (isOrphan s g) refl
-    where
-      go : (t : Bool) → isOrphan s g ≡ t → Sure s (pick t (file g noFile ∷ []) [])
-      go true e =
-          let o = orphan e in
-          let u = used s g (o .in-use) in
-          record { fits = (smaller-fits s g noFile (u .some) (u .within) (λ l. absurd (omega arith)) (omega arith), tt); well = freed-well (orphan-refiled o) }
-      go false e =
-          record {
-            fits = tt;
-            well = well-again s h (count-in s g c once
-                (λ is plain.
-                let u = used s g is in
-                no-orphan e is (form-ordinary (s .file g) (h .files g (u .some) (u .within)) (u .kind) (not-directory s g is plain) .kind)));
-          }
+  let-go once =
+      record {
+        fits = let-go-fits;
+        well = let-going s g Well
+            (λ e. well-again s h (count-in s g c once
+            (λ is plain.
+            let u = used s g is in
+            no-orphan e is (form-ordinary (s .file g) (h .files g (u .some) (u .within)) (u .kind) (not-directory s g is plain) .kind))))
+            (λ o. freed-well (orphan-refiled o));
+      }

@@ -32,8 +32,8 @@ pub record Names (s : Store) (d i : ℕ) (r : List ℕ) : Type 0 where
   pub deeper : isDirectory s (entryIn r .file) ≡ true → s .file (entryIn r .file) .depth ≡ s .file d .depth + 1
 
 pub data NewRecord (s : Store) (d i : ℕ) (r : List ℕ) : Type 0 where
-  blank : r ≡ blankRecord → NewRecord s d i r
-  naming : Names s d i r → NewRecord s d i r
+  as-blanked : r ≡ blankRecord → NewRecord s d i r
+  as-named : Names s d i r → NewRecord s d i r
 
 blank-zeros : zeros blankRecord 0 16 ≡ true
 unfolding zeros every one
@@ -127,8 +127,8 @@ module _ (s : Store) (d i : ℕ) (r : List ℕ) (w : Rewriting s d i r) where
 
     now-form : NewRecord s d i r → RecordForm s′ dir′ i
     unfolding entryAt
-    now-form (blank e) = as-blank (now-blank ∙ ap (λ (l : List ℕ). zeros l 0 16) e ∙ blank-zeros)
-    now-form (naming m) =
+    now-form (as-blanked e) = as-blank (now-blank ∙ ap (λ (l : List ℕ). zeros l 0 16) e ∙ blank-zeros)
+    now-form (as-named m) =
         as-naming (record {
           in-use = rw now-record (use-same s d i r w (entryIn r .file) ∙ m .in-use);
           not-root = rw now-record (m .not-root);
@@ -136,26 +136,26 @@ module _ (s : Store) (d i : ℕ) (r : List ℕ) (w : Rewriting s d i r) where
         })
 
     now-deeper : NewRecord s d i r → isDirectory s (entryIn r .file) ≡ true → s .file (entryIn r .file) .depth ≡ s .file d .depth + 1
-    now-deeper (blank e) is =
+    now-deeper (as-blanked e) is =
         let none : entryIn r .file ≡ 0 = ap (λ (l : List ℕ). entryIn l .file) e ∙ ap (λ (x : Entry). x .file) blank-entry in
         let u = directory-used s (entryIn r .file) is in
         absurd (omega (arith, u .some))
-    now-deeper (naming m) is = m .deeper is
+    now-deeper (as-named m) is = m .deeper is
 
     -- no record that is there has its name
     apart-from : NewRecord s d i r → (j : ℕ) → j < n → j ≢ i → isBlank dir j ≡ false → entryAt dir j .name ≢ entryIn r .name
-    apart-from (blank e) j l o b =
+    apart-from (as-blanked e) j l o b =
         let none : entryIn r .name ≡ [] = ap (λ (l : List ℕ). entryIn l .name) e ∙ ap (λ (x : Entry). x .name) blank-entry in
         λ q. not-empty (entryAt dir j .name) (syllable (h .records d j (w .directory) l)) (q ∙ none)
       where
         syllable : RecordForm s dir j → isSyllable (entryAt dir j .name) ≡ true
         syllable (as-blank t) = absurd (true≢false (sym t ∙ b))
         syllable (as-naming m) = naming-syllable s dir j m
-    apart-from (naming m) j l o b = m .fresh j l o
+    apart-from (as-named m) j l o b = m .fresh j l o
 
     now-fresh : NewRecord s d i r → (j : ℕ) → j < n → j ≢ i → isBlank dir′ i ≡ false → entryAt dir j .name ≢ entryIn r .name
-    now-fresh (blank e) j l o b = absurd (true≢false (sym (now-blank ∙ ap (λ (l : List ℕ). zeros l 0 16) e ∙ blank-zeros) ∙ b))
-    now-fresh (naming m) j l o b = m .fresh j l o
+    now-fresh (as-blanked e) j l o b = absurd (true≢false (sym (now-blank ∙ ap (λ (l : List ℕ). zeros l 0 16) e ∙ blank-zeros) ∙ b))
+    now-fresh (as-named m) j l o b = m .fresh j l o
 
     -- ---- every record
 

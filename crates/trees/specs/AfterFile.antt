@@ -1,12 +1,13 @@
 -- A store in which one file changes, and one in which one channel does: what stays.
 use Prim.Native.Nat.{ℕ, suc, _+_, _≤_, _<_}
-use mathlib.Core.Path.{_≡_, refl, ap, sym, _∙_}
-use mathlib.Core.Logic.{_≢_}
+use mathlib.Core.Path.{_≡_, refl, ap, sym, _∙_, fun-ext}
+use mathlib.Core.Logic.{_≢_, ⊎-elim}
 use mathlib.Core.Bool.{Bool, true, false, not, _&&_}
 use lib.Dec.{leb, ltb, eqb}
 use borrow.Author.Tests.{eq-eqb, ne-eqb}
-use Rattle.records.specs.Rows.{howMany}
+use Rattle.records.specs.Rows.{pick, howMany}
 use Rattle.records.specs.RowLaws.{howMany-cong}
+use Rattle.records.specs.Tests.{same-or-not}
 use Rattle.meaning.specs.Store.{Store, File, Channel, Change, file, channel, after, inUse, isDirectory, held}
 
 module _ (s : Store) (f : ℕ) (x : File) where
@@ -21,6 +22,25 @@ module _ (s : Store) (f : ℕ) (x : File) where
   pub held-file : (g : ℕ) → held (after s (file f x)) g ≡ held s g
   unfolding after held
   held-file g = refl
+
+-- two files changed, in either order
+pub files-swap : (s : Store) (f g : ℕ) (x y : File) → f ≢ g → after (after s (file f x)) (file g y) ≡ after (after s (file g y)) (file f x)
+unfolding after
+files-swap s f g x y n =
+    λ i. record {
+      blockCount = s .blockCount;
+      fileCount = s .fileCount;
+      channelCount = s .channelCount;
+      file = fun-ext go i;
+      channel = s .channel;
+    }
+  where
+    go : (h : ℕ) → pick (eqb h g) y (pick (eqb h f) x (s .file h)) ≡ pick (eqb h f) x (pick (eqb h g) y (s .file h))
+    go h =
+        ⊎-elim
+        (λ (e : h ≡ f). rw (ne-eqb h g (λ q. n (sym e ∙ q)), eq-eqb h f e))
+        (λ (o : h ≢ f). rw (ne-eqb h f o))
+        (same-or-not h f)
 
 module _ (s : Store) (c : ℕ) (y : Channel) where
   pub channel-changed : after s (channel c y) .channel c ≡ y

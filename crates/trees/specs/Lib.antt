@@ -7,3 +7,4 @@ pub mod Lookups
 pub mod Depth
 pub mod Naming
 pub mod Given
+pub mod LetGo
