@@ -24,3 +24,4 @@ pub mod Encoding
 pub mod NameStatements
 pub mod Unlinking
 pub mod Linking
+pub mod Creating

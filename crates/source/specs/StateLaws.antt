@@ -39,6 +39,18 @@ module _ {A B : Type 0} (f : A ⇸ B) (S : ℙ A) where
       go true = (b, refl)
       go false = (v, e)
 
+  -- and wherever another is that is defined there
+  pub over-wider : (g : A ⇸ B) → ((x : A) → x ∈dom f → x ∈dom g) → (b : B) (x : A) → x ∈dom (f ⊕ S ⟼ b) → x ∈dom (g ⊕ S ⟼ b)
+  over-wider g wider b x (v, e) = go (S x) e
+    where
+      go : (t : Bool) → above (f x) (pick t (some b) none) ≡ some v → (w : B) × (above (g x) (pick t (some b) none) ≡ some w)
+      go true e = (b, refl)
+      go false e = wider x (v, e)
+
+  -- the value b itself
+  pub over-here : (b : B) (x : A) → S x ≡ true → (f ⊕ S ⟼ b) x ≡ some b
+  over-here b x e = rw e
+
   -- a value of f outside a set is f's
   pub without-value : (x : A) (v : B) → (S ⩤ f) x ≡ some v → f x ≡ some v
   without-value x v e = go (S x) e
