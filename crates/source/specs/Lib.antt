@@ -25,3 +25,4 @@ pub mod NameStatements
 pub mod Unlinking
 pub mod Linking
 pub mod Creating
+pub mod Moving
