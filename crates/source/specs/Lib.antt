@@ -26,3 +26,5 @@ pub mod Unlinking
 pub mod Linking
 pub mod Creating
 pub mod Moving
+pub mod Listing
+pub mod Contents
