@@ -49,6 +49,10 @@ unfolding Accepted
 accepted-map P Q (refused why) f h = tt
 accepted-map P Q (done numbers bytes changes) f h = f numbers bytes changes h
 
+pub when-done : (P : List ℕ → List ℕ → List Change → Type 0) (r : Result) (numbers bytes : List ℕ) (changes : List Change) → r ≡ done numbers bytes changes → Accepted r P → P numbers bytes changes
+unfolding Accepted
+when-done P r numbers bytes changes e h = rw e at h
+
 -- one call, then another on the store that it leaves
 pub accepted-then : (s : Store) (P Q : List ℕ → List ℕ → List Change → Type 0) (r : Result) (next : Store → Result) → Good s r → Accepted r Q
     → ((numbers bytes : List ℕ) (changes : List Change) → Sure s changes → Q numbers bytes changes

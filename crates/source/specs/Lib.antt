@@ -28,3 +28,8 @@ pub mod Creating
 pub mod Moving
 pub mod Listing
 pub mod Contents
+pub mod ErrorStatements
+pub mod Reports
+pub mod Causes
+pub mod ErrorProofs
+pub mod NameErrors
