@@ -33,3 +33,4 @@ pub mod Reports
 pub mod Causes
 pub mod ErrorProofs
 pub mod NameErrors
+pub mod WholeCalls
