@@ -15,3 +15,4 @@ pub mod Prepared
 pub mod Calls
 pub mod Kept
 pub mod Proofs
+pub mod Moves

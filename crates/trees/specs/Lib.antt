@@ -8,3 +8,5 @@ pub mod Depth
 pub mod Naming
 pub mod Given
 pub mod LetGo
+pub mod Orphans
+pub mod Linked
