@@ -1,9 +1,12 @@
 -- The source's state of a store.
-use Prim.Native.Nat.{ℕ}
+use Prim.Native.Nat.{ℕ, _*_, _<_}
+use mathlib.Core.Path.{_≡_}
 use mathlib.Core.List.{List}
 use mathlib.Core.Option.{Option, none, some}
+use lib.ListN.{take, drop}
 use lib.Dec.{eqb}
-use Rattle.records.specs.Rows.{pick}
+use Rattle.records.specs.Rows.{pick, lowest}
+use Rattle.records.specs.Numbers.{one}
 use Rattle.meaning.specs.Name.{inDirectory}
 use Rattle.meaning.specs.Store.{Store, Channel, root, inUse, isDirectory, isOpen, named}
 use Rattle.source.specs.Sets.{_⇸_}
@@ -34,3 +37,17 @@ dirformat dir syllable = numbered (inDirectory dir syllable)
 
 abbrev pub RootFid : FID
 RootFid = root
+
+-- ---- what ls answers: rows of 14 bytes, each a syllable padded with zeros
+
+unfoldable pub rowAt : List ℕ → ℕ → List ℕ
+rowAt bytes j = take 14 (drop (14 * j) bytes)
+
+unfoldable pub rowName : List ℕ → SYL
+rowName row = take (lowest 14 (λ i. eqb (one row i) 0)) row
+
+-- one of `count` rows has the syllable
+pub record Listed (count : ℕ) (bytes : List ℕ) (syllable : SYL) : Type 0 where
+  pub row : ℕ
+  pub within : row < count
+  pub is : rowName (rowAt bytes row) ≡ syllable

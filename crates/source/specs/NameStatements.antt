@@ -1,0 +1,50 @@
+-- Each accepted call on names is its schema of the source, with 01's departures: freeing where the source destroys, and
+-- directories, which these calls refuse, so that dnames stays. A name is given as bytes; the source's name is its syllables.
+use Prim.Native.Nat.{ℕ, _*_}
+use mathlib.Core.Path.{_≡_}
+use mathlib.Core.List.{List, [], _∷_}
+use mathlib.Core.Option.{some}
+use lib.ListN.{length}
+use Rattle.meaning.specs.Name.{syllables}
+use Rattle.meaning.specs.Store.{Store, afterAll}
+use Rattle.meaning.specs.NameCalls.{create, link, unlink, move, ls}
+use Rattle.source.specs.Naming.{NAME, moveNS}
+use Rattle.source.specs.Filing.{State, lsFS}
+use Rattle.source.specs.Departures.{createFS, unlinking, linking, moving}
+use Rattle.source.specs.View.{view, Listed}
+use Rattle.source.specs.Accepted.{Ready, Accepted}
+
+-- no name of a directory comes or goes
+abbrev pub SameDirectories : State → State → Type 0
+SameDirectories x x′ = x′ .dnames ≡ x .dnames
+
+-- create: the channel
+abbrev pub CreateHolds : Type 0
+CreateHolds =
+    (s : Store) → Ready s → (bytes : List ℕ) (name : NAME) → syllables bytes ≡ some name → Accepted (create bytes s) λ numbers none changes.
+    (c : ℕ) × createFS name c (view s) (view (afterAll s changes)) × (numbers ≡ c ∷ []) × SameDirectories (view s) (view (afterAll s changes))
+
+abbrev pub UnlinkHolds : Type 0
+UnlinkHolds =
+    (s : Store) → Ready s → (bytes : List ℕ) (name : NAME) → syllables bytes ≡ some name → Accepted (unlink bytes s) λ numbers none changes.
+    unlinking name (view s) (view (afterAll s changes)) × (numbers ≡ []) × SameDirectories (view s) (view (afterAll s changes))
+
+abbrev pub LinkHolds : Type 0
+LinkHolds =
+    (s : Store) → Ready s → (old new : List ℕ) (oldname newname : NAME) → syllables old ≡ some oldname → syllables new ≡ some newname
+    → Accepted (link old new s) λ numbers none changes.
+    linking oldname newname (view s) (view (afterAll s changes)) × (numbers ≡ []) × SameDirectories (view s) (view (afterAll s changes))
+
+-- move: link and unlink composed; the name store is then as moveNS says
+abbrev pub MoveHolds : Type 0
+MoveHolds =
+    (s : Store) → Ready s → (old new : List ℕ) (oldname newname : NAME) → syllables old ≡ some oldname → syllables new ≡ some newname
+    → Accepted (move old new s) λ numbers none changes.
+    moving oldname newname (view s) (view (afterAll s changes)) × (numbers ≡ []) × SameDirectories (view s) (view (afterAll s changes))
+    × ((fid : ℕ) × moveNS (view s .nstore) (view (afterAll s changes) .nstore) oldname newname fid)
+
+-- ls: the count, and that many rows of 14 bytes, whose syllables are the directory's contents
+abbrev pub LsHolds : Type 0
+LsHolds =
+    (s : Store) → Ready s → (bytes : List ℕ) (name : NAME) → syllables bytes ≡ some name → (size : ℕ) → Accepted (ls bytes size s) λ numbers out changes.
+    (count : ℕ) × lsFS name (Listed count out) (view s) (view (afterAll s changes)) × (numbers ≡ count ∷ []) × (length out ≡ 14 * count)

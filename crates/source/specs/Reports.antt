@@ -1,0 +1,74 @@
+-- Which report a row of refusals gives: the first whose cause holds.
+use mathlib.Core.Path.{_≡_, refl, sym, ap, _∙_}
+use mathlib.Core.Logic.{_≢_, _⊎_, inl, inr, _↔_, ⊎-elim}
+use mathlib.Core.List.{List}
+use mathlib.Core.Bool.{Bool, true, false, true≢false}
+use mathlib.Core.Option.{Option, some}
+use Prim.Native.Nat.{ℕ}
+use lib.Dec.{eqb}
+use borrow.Author.Tests.{eqb-false}
+use Rattle.meaning.specs.Store.{Store, Change, afterAll}
+use Rattle.meaning.specs.Result.{Result, refused, done, unless, withSyllables, ifFits}
+use Rattle.meaning.specs.NameCalls.{withChanges, andThen}
+use Rattle.meaning.specs.Run.{numberOf}
+use Rattle.meaning.specs.declared.Report.{Report}
+use Rattle.meaning.specs.declared.Report.the-variants.{Ok, TooBig, NoRoom}
+use Rattle.source.specs.ErrorStatements.{reportOf}
+
+-- two reports with different numbers
+pub other-report : (a b : Report) → eqb (numberOf a) (numberOf b) ≡ false → a ≢ b
+other-report a b d e = eqb-false (numberOf a) (numberOf b) d (ap numberOf e)
+
+module _ (why : Report) where
+  -- a report that a call never gives
+  abbrev pub Never : Result → Type 0
+  Never r = reportOf r ≢ why
+
+  pub never-done : Ok ≢ why → (numbers bytes : List ℕ) (changes : List Change) → Never (done numbers bytes changes)
+  unfolding reportOf
+  never-done n numbers bytes changes = n
+
+  pub never-unless : (t : Bool) (other : Report) (r : Result) → other ≢ why → Never r → Never (unless t other r)
+  unfolding unless reportOf
+  never-unless true other r n h = n
+  never-unless false other r n h = h
+
+  pub never-fits : (s : Store) (old new : ℕ) (r : Result) → TooBig ≢ why → NoRoom ≢ why → Never r → Never (ifFits s old new r)
+  unfolding ifFits
+  never-fits s old new r big room h = never-unless _ TooBig _ big (never-unless _ NoRoom r room h)
+
+  -- its cause comes first
+  pub reported-first : (t : Bool) (r : Result) → Never r → (reportOf (unless t why r) ≡ why) ↔ (t ≡ true)
+  unfolding unless reportOf
+  reported-first true r n = (λ e. refl, λ e. refl)
+  reported-first false r n = (λ e. absurd (n e), λ e. absurd (true≢false (sym e)))
+
+  -- another comes before
+  pub reported-later : (t : Bool) (other : Report) (r : Result) → other ≢ why → (reportOf (unless t other r) ≡ why) ↔ ((t ≡ false) × (reportOf r ≡ why))
+  unfolding unless reportOf
+  reported-later true other r n = (λ e. absurd (n e), λ h. absurd (true≢false (h .0)))
+  reported-later false other r n = (λ e. (refl, e), λ h. h .1)
+
+  -- it comes first, and may come later
+  pub reported-twice : (t : Bool) (r : Result) → (reportOf (unless t why r) ≡ why) ↔ ((t ≡ true) ⊎ ((t ≡ false) × (reportOf r ≡ why)))
+  unfolding unless reportOf
+  reported-twice true r = (λ e. inl refl, λ h. refl)
+  reported-twice false r = (λ e. inr (refl, e), λ h. ⊎-elim (λ e. absurd (true≢false (sym e))) (λ h. h .1) h)
+
+  -- past BadName
+  pub reported-named : (A : Type 0) (name : List (List ℕ)) (bytes : Option (List (List ℕ))) (r : List (List ℕ) → Result) → bytes ≡ some name
+      → (reportOf (r name) ≡ why) ↔ A → (reportOf (withSyllables bytes r) ≡ why) ↔ A
+  unfolding withSyllables
+  reported-named A name bytes r e h = rw e h
+
+  -- of one call, then another that never gives it
+  pub reported-then : Ok ≢ why → (s : Store) (r : Result) (next : Store → Result)
+      → ((numbers bytes : List ℕ) (changes : List Change) → r ≡ done numbers bytes changes → Never (next (afterAll s changes)))
+      → (reportOf (andThen s r next) ≡ why) ↔ (reportOf r ≡ why)
+  unfolding andThen withChanges reportOf
+  reported-then n s (refused other) next h = (λ e. e, λ e. e)
+  reported-then n s (done numbers bytes changes) next h = (λ e. absurd (go (next (afterAll s changes)) (h numbers bytes changes refl) e), λ e. absurd (n e))
+    where
+      go : (r : Result) → Never r → reportOf (withChanges changes r) ≡ why → ⊥
+      go (refused other) n e = n e
+      go (done more-numbers more-bytes more) n e = n e
