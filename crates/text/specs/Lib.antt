@@ -5,3 +5,5 @@ pub mod Examples
 pub mod Commands
 pub mod Words
 pub mod Arguments
+pub mod Lays
+pub mod LaysLaws
