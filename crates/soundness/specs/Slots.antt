@@ -3,7 +3,6 @@
 use Prim.Native.Nat.{ℕ, suc, _+_, _*_, _/_, _%_, _≤_, _<_}
 use mathlib.Core.Path.{_≡_, refl, sym, ap, _∙_}
 use mathlib.Core.List.{List, []}
-use mathlib.Core.Bool.{true}
 use native.Mathlib.Omega.{arith}
 use lib.ListN.{length, getD}
 use Rattle.records.specs.RowLaws.{length-listOf}
@@ -11,7 +10,7 @@ use Rattle.records.specs.Numbers.{zeros}
 use Rattle.meaning.specs.File.{needed, longest}
 use Rattle.meaning.specs.Name.{recordAt, entryAt, entryIn, isBlank}
 use Rattle.meaning.specs.Store.{Store}
-use Rattle.meaning.specs.Tables.{Tables, tables, storeOf, fileOf, byteOf, blockOf, blockCount, fileCount, lengthAt, fileLength}
+use Rattle.meaning.specs.Tables.{tables, storeOf, fileOf, byteOf, blockOf, blockCount, fileCount, lengthAt, fileLength}
 use Rattle.names.specs.RecordNames.{recordFrom, record-at}
 use Rattle.directories.specs.Places.{recordPlace, record-there, blank-there}
 

@@ -1,14 +1,14 @@
 -- A file in use, and a directory in use, in plain facts; both ways.
 use Prim.Native.Nat.{ℕ, zero, suc, _≤_, _<_}
 use mathlib.Core.Path.{_≡_, refl, sym, _∙_}
-use mathlib.Core.Logic.{_≢_, ⊎-elim}
+use mathlib.Core.Logic.{_≢_}
 use mathlib.Core.Bool.{Bool, true, false, not, _&&_, _||_, true≢false}
 use native.Mathlib.Omega.{arith}
-use lib.Dec.{leb, ltb, eqb}
-use borrow.Author.Tests.{ltb-true, leb-true, eqb-true, eqb-false, lt-ltb, le-leb, eq-eqb, ne-eqb, not-true}
+use lib.Dec.{eqb}
+use borrow.Author.Tests.{eqb-true, eq-eqb}
 use Rattle.records.specs.Rows.{every}
 use Rattle.records.specs.RowLaws.{every-all, all-every}
-use Rattle.records.specs.Tests.{and-left, and-right, and-both, tested}
+use Rattle.records.specs.Tests.{and-left, and-right, and-both}
 use Rattle.meaning.specs.Store.{Store, inUse, isDirectory}
 use Rattle.layout.specs.Layout.{in-use-facts, facts-in-use}
 
