@@ -1,15 +1,12 @@
 -- Our reading and writing of files, as rows of bytes, are the source's partial functions (4.3.2).
-use Prim.Native.Nat.{ℕ, zero, suc, _+_, _-_, _≤_, _<_, min, max}
+use Prim.Native.Nat.{ℕ, zero, suc, _+_, _-_, _≤_, _<_, max}
 use mathlib.Core.Path.{_≡_, refl, ap, ap₂, sym, _∙_, fun-ext}
 use mathlib.Core.Logic.{⊎-elim}
 use mathlib.Core.List.{List, [], _∷_}
-use mathlib.Core.Bool.{false, _&&_}
 use mathlib.Core.Option.{Option, none, some, Option·some-injective, Option·some-ne-none}
 use native.Mathlib.Omega.{arith}
 use lib.ListN.{length, getD, getElem?}
-use lib.Dec.{leb}
 use borrow.Author.Tests.{le-leb, lt-leb}
-use Rattle.records.specs.Rows.{pick}
 use Rattle.records.specs.Tests.{lt-or-ge}
 use Rattle.meaning.specs.File.{readFILE, writeFILE}
 use Rattle.meaning.specs.FileLaws.{length-read, byte-read, length-write, byte-data, byte-before, byte-after, byte-past}

@@ -1,15 +1,14 @@
 -- The source's state of a well-formed store keeps the source's invariants: AS, NS, dirstored and FS.
-use Prim.Native.Nat.{ℕ, _+_, _≤_, _<_}
-use mathlib.Core.Path.{_≡_, refl, ap, sym, _∙_}
-use mathlib.Core.Logic.{_≢_, ⊎-elim}
+use Prim.Native.Nat.{ℕ, _<_}
+use mathlib.Core.Path.{_≡_, ap, sym, _∙_}
+use mathlib.Core.Logic.{_≢_}
 use mathlib.Core.List.{List, [], _∷_}
-use mathlib.Core.Bool.{Bool, true, false}
-use mathlib.Core.Option.{Option, none, some}
+use mathlib.Core.Bool.{true, false}
+use mathlib.Core.Option.{some}
 use native.Mathlib.Omega.{arith}
-use lib.ListN.{length}
 use Rattle.names.specs.ByteLaws.{not-false-true}
 use Rattle.meaning.specs.Name.{recordCount, isBlank, entryAt, recordNamed, inDirectory}
-use Rattle.meaning.specs.Store.{Store, root, inUse, isDirectory, isOpen, within, named, front, last}
+use Rattle.meaning.specs.Store.{Store, root, inUse, isDirectory, within, named, front, last}
 use Rattle.soundness.specs.Use.{used, of-used, directory-used}
 use Rattle.soundness.specs.Well.{Well}
 use Rattle.soundness.specs.WellFacts.{blank-file, root-directory, open-channel, naming-record}
@@ -20,7 +19,7 @@ use Rattle.trees.specs.Standing.{named-empty}
 use Rattle.source.specs.Sets.{_∈dom_}
 use Rattle.source.specs.Channels.{CHAN, AS}
 use Rattle.source.specs.Naming.{NAME, NS, applied, dirstored}
-use Rattle.source.specs.Filing.{State, Used, by-name, by-channel, FS}
+use Rattle.source.specs.Filing.{Used, by-name, by-channel, FS}
 use Rattle.source.specs.View.{numbered, view, dirformat, RootFid}
 use Rattle.source.specs.ViewLaws.{numbered-some, numbered-is, numbered-not, file-there, channel-open, channel-is, more-syllables}
 

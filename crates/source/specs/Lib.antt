@@ -16,7 +16,9 @@ pub mod Freeing
 pub mod Accepted
 pub mod ChannelStatements
 pub mod Moves
+pub mod HeldChannel
 pub mod ChannelProofs
+pub mod Writing
 pub mod OpenClose
 pub mod Renamed
 pub mod NameSteps
@@ -24,6 +26,7 @@ pub mod Encoding
 pub mod NameStatements
 pub mod Unlinking
 pub mod Linking
+pub mod Emptying
 pub mod Creating
 pub mod Moving
 pub mod Listing
