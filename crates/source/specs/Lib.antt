@@ -7,13 +7,14 @@ pub mod View
 pub mod Departures
 pub mod FileLaws
 pub mod ViewLaws
+pub mod Accepted
+pub mod InvariantStatements
 pub mod Invariants
 pub mod StateLaws
 pub mod StepLaws
 pub mod NamedBy
 pub mod Tree
 pub mod Freeing
-pub mod Accepted
 pub mod ChannelStatements
 pub mod Moves
 pub mod HeldChannel
