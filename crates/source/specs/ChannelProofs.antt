@@ -13,7 +13,7 @@ use Rattle.meaning.specs.ChannelCalls.{read, seek, seekTo, fstat, lastPosition}
 use Rattle.source.specs.Filing.{readFS, seekFS, fstatFS}
 use Rattle.source.specs.View.{chanOf, view}
 use Rattle.source.specs.ViewLaws.{channel-there}
-use Rattle.source.specs.FileLaws.{read-seq}
+use Rattle.source.specs.FileLaws.{read-schema}
 use Rattle.source.specs.StateLaws.{access}
 use Rattle.source.specs.StepLaws.{channel-files}
 use Rattle.source.specs.Moves.{over-own}
@@ -51,7 +51,7 @@ module _ (s : Store) (ready : Ready s) (c : ℕ) (o : isOpen s c ≡ true) where
                                 is = its-file s ready c o;
                                 others = channel-files s c (channelTo (y .file) p) ∙ over-own (view s .fstore) (y .file) (s .file (y .file) .bytes) (its-file s ready c o);
                               };
-                          reads = record { stays = refl; reads = read-seq (s .file (y .file) .bytes) (y .posn) count };
+                          reads = read-schema (s .file (y .file) .bytes) (y .posn) count;
                         };
                     channel = record { fid = refl };
                     posn = refl;

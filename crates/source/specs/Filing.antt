@@ -76,9 +76,9 @@ pub record openFS (name : NAME) (cid : CID) (x x′ : State) : Type 0 where
   pub channel : openCS (x .cstore) (x′ .cstore) chan cid
   pub names : lookupNS (x .nstore) (x′ .nstore) name (chan .fid)
 
-pub record readFS (cid : CID) (size : ℕ) (bytes : List ℕ) (x x′ : State) : Type 0 where
+pub record readFS (cid : CID) (size : ℕ) (out : List ℕ) (x x′ : State) : Type 0 where
   pub change : ΔFS x x′
-  pub reads : readAS (x .fstore) (x′ .fstore) (x .cstore) (x′ .cstore) cid size bytes
+  pub reads : readAS (x .fstore) (x′ .fstore) (x .cstore) (x′ .cstore) cid size out
   pub names : ΞNS x x′
 
 pub record writeFS (cid : CID) (bytes : List ℕ) (x x′ : State) : Type 0 where

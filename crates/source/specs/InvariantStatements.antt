@@ -1,5 +1,5 @@
 -- The source's state of a store keeps the source's invariants, and every call keeps them.
-use Prim.Native.Nat.{ℕ, _≤_}
+use Prim.Native.Nat.{_≤_}
 use mathlib.Core.Path.{_≡_}
 use mathlib.Core.Logic.{_≢_}
 use mathlib.Core.List.{[]}

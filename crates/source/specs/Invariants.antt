@@ -11,7 +11,7 @@ use Rattle.names.specs.ByteLaws.{not-false-true}
 use Rattle.meaning.specs.Name.{mostSyllables, recordCount, isBlank, entryAt, recordNamed, inDirectory}
 use Rattle.meaning.specs.Store.{Store, afterAll, root, inUse, isDirectory, within, named, front, last}
 use Rattle.meaning.specs.Tables.{storeOf}
-use Rattle.meaning.specs.Run.{Call, meaning, changesOf}
+use Rattle.meaning.specs.Run.{meaning, changesOf}
 use Rattle.layout.specs.Layout.{sound-layout}
 use Rattle.soundness.specs.Use.{used, of-used, directory-used}
 use Rattle.soundness.specs.Well.{Well}
@@ -25,11 +25,11 @@ use Rattle.trees.specs.Standing.{named-empty}
 use Rattle.keeping.specs.Sure.{sized-after}
 use Rattle.keeping.specs.Calls.{good, sure}
 use Rattle.source.specs.Sets.{_∈dom_}
-use Rattle.source.specs.Channels.{CHAN, AS}
+use Rattle.source.specs.Channels.{CHAN}
 use Rattle.source.specs.Naming.{NAME, NS, applied, dirstored}
 use Rattle.source.specs.Filing.{Used, by-name, by-channel, FS}
 use Rattle.source.specs.View.{numbered, view, dirformat, RootFid}
-use Rattle.source.specs.Accepted.{Ready, sized}
+use Rattle.source.specs.Accepted.{sized}
 use Rattle.source.specs.InvariantStatements.{StateHolds, InvariantsHold, InvariantsKept, SoundReady}
 use Rattle.source.specs.ViewLaws.{no-more, numbered-some, numbered-is, numbered-not, file-there, channel-open, channel-is, more-syllables}
 

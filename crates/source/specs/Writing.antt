@@ -16,7 +16,7 @@ use Rattle.soundness.specs.Use.{used, directory-kind, not-so}
 use Rattle.source.specs.Sets.{_∈dom_, _⊕_, _⟼_, the}
 use Rattle.source.specs.Filing.{writeFS}
 use Rattle.source.specs.View.{chanOf, view}
-use Rattle.source.specs.FileLaws.{write-seq}
+use Rattle.source.specs.FileLaws.{write-schema}
 use Rattle.source.specs.StateLaws.{defined, over-defined}
 use Rattle.source.specs.StepLaws.{channel-files, file-channels, file-names, file-put}
 use Rattle.source.specs.Moves.{Filed, put-names, put-change, put-frame}
@@ -84,7 +84,7 @@ module _ (s : Store) (ready : Ready s) (c : ℕ) (o : isOpen s c ≡ true) where
                       writes =
                           record {
                             frame = record { is = its-file s ready c o; others = channel-files t c z ∙ put };
-                            writes = record { writes = write-seq old (y .posn) bytes };
+                            writes = write-schema old (y .posn) bytes;
                           };
                       channel = record { fid = refl };
                       posn = refl;
