@@ -165,7 +165,7 @@ create-holds s ready bytes name e =
     past _ _ _ _ λ room.
     let p = place-of s ready name (last-spelled bytes name e (plain-name s ready name plain)) here plain in
     let number = free-number s numbers in
-    accepted _ _ _ _ (freeChannel s, create-new s ready name plain free gone p (freeFile s) number, refl, last-names s ready name plain free gone p (freeFile s) number .directories)))
+    accepted _ _ _ _ (freeChannel s, create-new s ready name plain free gone p (freeFile s) number, refl, free-below s free, last-names s ready name plain free gone p (freeFile s) number .directories)))
     (λ (there : missing s name ≡ false). rw there (
-    accepted _ _ _ _ (freeChannel s, create-old s ready name plain free there, refl, create-old-directories s ready name plain free there)))
+    accepted _ _ _ _ (freeChannel s, create-old s ready name plain free there, refl, free-below s free, create-old-directories s ready name plain free there)))
     (tested (missing s name)))

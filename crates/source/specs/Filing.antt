@@ -75,6 +75,7 @@ pub record openFS (name : NAME) (cid : CID) (x x′ : State) : Type 0 where
   pub chan : CHAN
   pub channel : openCS (x .cstore) (x′ .cstore) chan cid
   pub names : lookupNS (x .nstore) (x′ .nstore) name (chan .fid)
+  pub unchanged : ΞNS x x′
 
 pub record readFS (cid : CID) (size : ℕ) (out : List ℕ) (x x′ : State) : Type 0 where
   pub change : ΔFS x x′

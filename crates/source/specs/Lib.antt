@@ -38,3 +38,4 @@ pub mod Causes
 pub mod ErrorProofs
 pub mod NameErrors
 pub mod WholeCalls
+pub mod DirectoryErrors

@@ -74,6 +74,7 @@ module _ (s : Store) (ready : Ready s) (name : NAME) (there : named s name ≢ 0
               opens = put-channel s s (filed s filing) c y (free-below s free) there exists;
             };
         names = record { is = numbered-some (named s name) there; stays = channel-names s c y .names };
+        unchanged = channel-names s c y;
       }
 
 pub open-holds : OpenHolds
@@ -82,7 +83,7 @@ open-holds s ready bytes name e =
     spelled _ name _ _ e (
     past _ _ _ _ λ there.
     past _ _ _ _ λ free.
-    accepted _ _ _ _ (freeChannel s, opened s ready name (missing-some s name there) free, refl))
+    accepted _ _ _ _ (freeChannel s, opened s ready name (missing-some s name there) free, refl, free-below s free))
 
 -- ---- close
 

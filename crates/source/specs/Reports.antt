@@ -69,3 +69,14 @@ module _ (why : Report) where
   pub refused-report : (r : Result) → r ≡ refused why → reportOf r ≡ why
   unfolding reportOf
   refused-report r e = ap reportOf e
+
+-- ---- a part of a fact, in other words
+
+pub in-second : {A B C : Type 0} → B ↔ C → (A × B) ↔ (A × C)
+in-second f = (λ h. (h .0, f .0 (h .1)), λ h. (h .0, f .1 (h .1)))
+
+pub both-parts : {A B C D : Type 0} → A ↔ B → C ↔ D → (A × C) ↔ (B × D)
+both-parts f g = (λ h. (f .0 (h .0), g .0 (h .1)), λ h. (f .1 (h .0), g .1 (h .1)))
+
+pub in-right : {A B C D : Type 0} → C ↔ D → (A ⊎ (B × C)) ↔ (A ⊎ (B × D))
+in-right f = (λ h. ⊎-elim (λ a. inl a) (λ b. inr (b .0, f .0 (b .1))) h, λ h. ⊎-elim (λ a. inl a) (λ b. inr (b .0, f .1 (b .1))) h)
