@@ -57,7 +57,7 @@ asked (Write c bytes) t e = sound-store e
 asked (Seek c mode n) t e = sound-store e
 
 -- a sound store has lengths that agree, so every call accepts it
-sound-accepted : (call : Call) (t : Tables) → sound t ≡ true → accepts call t ≡ true
+pub sound-accepted : (call : Call) (t : Tables) → sound t ≡ true → accepts call t ≡ true
 unfolding accepts
 sound-accepted Prepare t e = agree-lengths t (sound-layout t e .lengths)
 sound-accepted Room t e = e
@@ -133,6 +133,10 @@ module _ (call : Call) (t : Tables) (buffer : List ℕ) (ok : accepts call t ≡
   unfolding run resultOf unless
   made = rw ok
 
+  -- they hold the store that the call's changes leave
+  pub store-after : storeOf (tablesAfter call t buffer) ≡ afterAll (storeOf t) (changesOf (meaning call (storeOf t)))
+  store-after = rw made (l .holding .stored)
+
   pub accepted-sound : sound (tablesAfter call t buffer) ≡ true
   accepted-sound = rw made (holding-sound (putAll t (changesOn call t)) (afterAll (storeOf t) (changesOn call t)) (l .holding) (of-well (afterAll (storeOf t) (changesOn call t)) (l .well)))
 
@@ -145,8 +149,7 @@ module _ (call : Call) (t : Tables) (buffer : List ℕ) (ok : accepts call t ≡
   blocks-same : storeOf (tablesAfter call t buffer) .blockCount ≡ blockCount (t .blockRecords)
   unfolding storeOf
   blocks-same =
-      ap (λ (u : Tables). storeOf u .blockCount) made
-      ∙ ap (λ (s : Store). s .blockCount) (l .holding .stored)
+      ap (λ (s : Store). s .blockCount) store-after
       ∙ blocks-after (storeOf t) (changesOn call t)
 
   pub store-room : freeBlocks (storeOf (tablesAfter call t buffer)) + blocksNeeded (storeOf (tablesAfter call t buffer)) ≡ blockCount (t .blockRecords)

@@ -16,7 +16,7 @@ use Rattle.layout.specs.Blocks.{holds-owner, holds-place, other-owner, o
 use Rattle.layout.specs.Layout.{Free, Held, Layout}
 
 -- two indices that pass count for two
-howMany-two : (n : ℕ) (p : ℕ → Bool) (j k : ℕ) → j < n → k < n → j ≢ k → p j ≡ true → p k ≡ true → 2 ≤ howMany n p
+pub howMany-two : (n : ℕ) (p : ℕ → Bool) (j k : ℕ) → j < n → k < n → j ≢ k → p j ≡ true → p k ≡ true → 2 ≤ howMany n p
 unfolding howMany
 howMany-two n p j k hj hk d ej ek =
     let rest : ℕ → ℕ = λ i. pick (eqb i j) 0 (tally (p i)) in

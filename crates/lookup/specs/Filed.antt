@@ -14,6 +14,7 @@ use Rattle.layout.specs.Layout.{Layout, sound-layout}
 use Rattle.soundness.specs.Well.{Well}
 use Rattle.soundness.specs.WellLaws.{well}
 use Rattle.soundness.specs.WellFacts.{directory-length}
+use Rattle.soundness.specs.Seen.{filesStore, isDirectory-seen}
 use Rattle.directories.specs.Find.{Lies}
 use Rattle.lookup.specs.Walk.{walk}
 use Rattle.lookup.specs.Found.{directory-lies}
@@ -70,6 +71,11 @@ module _ (blocks records files channels : List ℕ) where
       walk-seen (within (storeOf (tables blocks records files channels)) d syllable) rest
       ∙ ap (λ e. walk (filed blocks records files) e rest) (within-seen d syllable)
 
+-- whether a file is a directory, off the file records alone
+pub directory-here : (blocks records files : List ℕ) (d : ℕ) → isDirectory (filed blocks records files) d ≡ isDirectory (filesStore files) d
+directory-here blocks records files d = isDirectory-seen (tables blocks records files []) d
+
+module _ (blocks records files channels : List ℕ) where
   -- the shelves of a sound store
   pub shelves : sound (tables blocks records files channels) ≡ true → Shelves blocks records files
   shelves ok =
@@ -77,6 +83,6 @@ module _ (blocks records files channels : List ℕ) where
       let L = sound-layout t ok in
       let w = sound-well t ok in
       record {
-        lies = λ d is. rw (bytes-seen d) at (directory-lies t L w d (directory-seen d ∙ is));
-        whole = λ d is. rw (bytes-seen d) at (directory-length (storeOf t) w d (directory-seen d ∙ is));
+        lies = λ d is. rw (bytes-seen blocks records files channels d) at (directory-lies t L w d (directory-seen blocks records files channels d ∙ is));
+        whole = λ d is. rw (bytes-seen blocks records files channels d) at (directory-length (storeOf t) w d (directory-seen blocks records files channels d ∙ is));
       }

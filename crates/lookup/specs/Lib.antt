@@ -1,3 +1,4 @@
 pub mod Walk
 pub mod Found
 pub mod Filed
+pub mod LookLaws

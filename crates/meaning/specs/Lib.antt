@@ -9,6 +9,7 @@ pub mod Tables
 pub mod Sound
 pub mod Run
 pub mod Determined
+pub mod PromiseLaws
 pub mod Answers
 pub mod Text
 pub mod Running

@@ -3,3 +3,14 @@ pub mod Well
 pub mod FormLaws
 pub mod WellLaws
 pub mod WellFacts
+pub mod Seen
+pub mod RuleLoops
+pub mod Rules
+pub mod Slots
+pub mod RecordRules
+pub mod DirectoryRules
+pub mod DirectoryReads
+pub mod Counts
+pub mod SoundLaws
+pub mod NamesSeen
+pub mod SoundRules

@@ -54,6 +54,11 @@ pub record Used (s : Store) (f : ℕ) : Type 0 where
   pub within : f ≤ s .fileCount
   pub kind : s .file f .kind ≢ 0
 
+-- 0 means none
+pub none-unused : (s : Store) → inUse s 0 ≡ false
+unfolding inUse
+none-unused s = refl
+
 module _ (s : Store) (f : ℕ) where
   pub used : inUse s f ≡ true → Used s f
   unfolding inUse

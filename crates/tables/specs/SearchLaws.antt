@@ -35,7 +35,7 @@ pub number-test : (records : List ℕ) (n b v : ℕ) → v ≡ four records (4 *
 number-test records n b v e = ap (λ m. eqb m n) (sym e)
 
 module _ (records : List ℕ) (bytes : (j : ℕ) → getD records j 0 < 256) where
-  holds-number : (f i b : ℕ) → f < 65536 → holds records f i b ≡ isNumber records (f + 65536 * i) b
+  pub holds-number : (f i b : ℕ) → f < 65536 → holds records f i b ≡ isNumber records (f + 65536 * i) b
   unfolding holds owner place four
   holds-number f i b small =
       let o = two records (4 * b) in

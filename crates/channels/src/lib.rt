@@ -1,0 +1,160 @@
+// Calls on a channel.
+use meaning::ChannelNo;
+use meaning::FileNo;
+use meaning::Report;
+use meaning::Sought;
+use meaning::Stat;
+use soundness::is_sound;
+use tables::ChannelRecord;
+use tables::channel_record;
+use tables::file_record;
+use tables::put_channel_record;
+ghost use mathlib.Core.Path.{_≡_};
+ghost use Prim.Native.Nat.{_≤_, _<_};
+ghost use Rattle.meaning.specs.ChannelCalls.{seekTo};
+ghost use Rattle.meaning.specs.Run.{Keeps, Call, entered};
+ghost use Rattle.meaning.specs.Answers.{sought, statOf};
+ghost use Rattle.channels.specs.Held.{OnChannel};
+ghost use Rattle.channels.specs.Seek.{Decided};
+
+// What a channel holds, or the refusal that comes before any other of a call on a channel.
+pub enum Held {
+    Open(ChannelRecord),
+    Refused(Report),
+}
+
+pub fn held_channel(
+    blocks: &[u8],
+    block_records: &[u8],
+    file_records: &[u8],
+    channel_records: &[u8],
+    c: ChannelNo,
+) -> Held
+    ensures { λ r. ⌜ OnChannel (entered blocks «block_records» «file_records» «channel_records») (c .0) r ⌝ }
+{
+    if !is_sound(blocks, block_records, file_records, channel_records) {
+        return Held::Refused(Report::NotAStore);
+    }
+    if channel_records.len() / 8 <= c.0 as usize {
+        return Held::Refused(Report::NoSuchCid);
+    }
+    let record = channel_record(channel_records, c);
+    if record.file.0 == 0 {
+        return Held::Refused(Report::NoSuchCid);
+    }
+    Held::Open(record)
+}
+
+// The file that a channel holds: length, file number, kind.
+pub fn fstat(
+    blocks: &[u8],
+    block_records: &[u8],
+    file_records: &[u8],
+    channel_records: &[u8],
+    c: ChannelNo,
+) -> Stat
+    ensures { λ r. ⌜ Keeps (Call.Fstat (c .0)) blocks «block_records» «file_records» «channel_records» (statOf r) ⌝ }
+{
+    let held = held_channel(blocks, block_records, file_records, channel_records, c);
+    match held {
+        Held::Refused(why) => Stat::Refused(why),
+        Held::Open(channel) => {
+            let f = channel.file;
+            let record = file_record(file_records, f);
+            Stat::Of(record.length, f, record.kind)
+        }
+    }
+}
+
+// Where a seek leads, by its mode 0 to 5.
+fn seek_to(mode: u32, posn: u32, size: u32, n: u32) -> u64
+    requires { ⌜ mode ≤ 5 ⌝ }
+    ensures { λ r. ⌜ r ≡ seekTo mode posn size n ⌝ }
+{
+    let bytes = n as u64;
+    if mode == 0 {
+        return bytes;
+    }
+    if mode == 1 {
+        return posn as u64 + bytes;
+    }
+    if mode == 2 {
+        return size as u64 + bytes;
+    }
+    if mode == 3 {
+        return 512 * bytes;
+    }
+    if mode == 4 {
+        return posn as u64 + 512 * bytes;
+    }
+    size as u64 + 512 * bytes
+}
+
+// What seek decides: the channel's record with its new position, or a refusal.
+pub enum Seeking {
+    To(ChannelRecord),
+    No(Report),
+}
+
+// The refusals of a seek in their order, or where it leads.
+fn decide_seek(
+    blocks: &[u8],
+    block_records: &[u8],
+    file_records: &[u8],
+    channel_records: &[u8],
+    c: ChannelNo,
+    mode: u32,
+    n: u32,
+) -> Seeking
+    ensures { λ r. ⌜ Decided (entered blocks «block_records» «file_records» «channel_records») (c .0) mode n r ⌝ }
+{
+    let held = held_channel(blocks, block_records, file_records, channel_records, c);
+    match held {
+        Held::Refused(why) => Seeking::No(why),
+        Held::Open(channel) => {
+            if 5 < mode {
+                return Seeking::No(Report::BadSeek);
+            }
+            let f = channel.file;
+            let record = file_record(file_records, f);
+            let to = seek_to(mode, channel.position, record.length, n);
+            if 16777215 < to {
+                return Seeking::No(Report::BadSeek);
+            }
+            Seeking::To(ChannelRecord {
+                file: f,
+                position: to as u32,
+            })
+        }
+    }
+}
+
+// Moves a channel's position.
+pub fn seek(
+    blocks: &[u8],
+    block_records: &[u8],
+    file_records: &[u8],
+    channel_records: &mut [u8],
+    c: ChannelNo,
+    mode: u32,
+    n: u32,
+) -> Sought
+    ensures { λ r. ⌜ Keeps (Call.Seek (c .0) mode n) blocks «block_records» «file_records» «channel_records» (sought r) ⌝ }
+{
+    let decided = decide_seek(
+        blocks,
+        block_records,
+        file_records,
+        channel_records,
+        c,
+        mode,
+        n,
+    );
+    match decided {
+        Seeking::No(why) => Sought::Refused(why),
+        Seeking::To(moved) => {
+            put_channel_record(channel_records, c, moved);
+            Sought::At(moved.position)
+        }
+    }
+}

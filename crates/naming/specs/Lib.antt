@@ -1,0 +1,4 @@
+pub mod Judged
+pub mod Located
+pub mod LocateLaws
+pub mod At

@@ -1,0 +1,73 @@
+-- Each place of every file passed has exactly one block; the measure is how many files are left.
+use Prim.Native.Nat.{ℕ, suc, _+_, _-_, _*_, _/_, _≤_}
+use mathlib.Core.Path.{_≡_, refl, sym, _∙_}
+use mathlib.Core.List.{List, []}
+use mathlib.Core.Bool.{Bool, true}
+use lib.ListN.{length}
+use Rattle.records.specs.Rows.{every}
+use Rattle.records.specs.LoopLaws.{every-start}
+use Rattle.soundness.specs.RuleLoops.{rule-passed, rule-failed, rules-passed}
+use Prim.Native.Nat.{_<_}
+use native.Mathlib.Omega.{arith}
+use Rattle.records.specs.RowLaws.{every-all, length-listOf}
+use Rattle.meaning.specs.Tables.{tables, storeOf, fileOf, byteOf, lengthAt}
+use Rattle.meaning.specs.Sound.{fileSound, filesSound, placedOnce}
+use Rattle.soundness.specs.Well.{FileForm}
+use Rattle.soundness.specs.FormLaws.{file-sound}
+use Rattle.soundness.specs.WellFacts.{form-size}
+use Rattle.soundness.specs.Seen.{filesStore, recordTables}
+use borrow.Author.Needs.{needs}
+use Rattle.soundness.proofs.places_sound.Statement.{statement}
+use Rattle.soundness.proofs.places_sound.Tie as tie
+
+abbrev rule : List ℕ → List ℕ → ℕ → Bool
+rule records files r = placedOnce (recordTables records files) (suc r)
+
+-- no sound file is longer than 32,768
+short : (files : List ℕ) (r : ℕ) → filesSound (filesStore files) ≡ true → r < length files / 8 → lengthAt files r ≤ 32768
+unfolding filesSound storeOf fileOf
+short files r e h =
+    let x = filesStore files .file (suc r) in
+    let size = form-size x (file-sound x (suc r) (every-all (length files / 8) (λ i. fileSound (suc i) (filesStore files .file (suc i))) e r h) .0) in
+    omega (arith, size, length-listOf (lengthAt files r) (byteOf (tables [] [] files []) (suc r)))
+
+abbrev Inv-loop : tie.InvT-loop
+Inv-loop block-records file-records count r₀ r = (count ≡ length file-records / 8) × (r ≤ count) × (every r (rule block-records file-records) ≡ true)
+
+abbrev μ-loop : tie.MeasureT-loop
+μ-loop block-records file-records count r₀ r = count - r
+
+loop-holds : tie.Need-loop-holds Inv-loop μ-loop
+loop-holds c = (refl, search needs, search every-start)
+
+file-placed-requires : tie.Need-file-placed-requires Inv-loop μ-loop
+file-placed-requires c κs = (search needs, search needs, short _ _ (search needs) (search needs))
+
+returns : tie.Need-returns Inv-loop μ-loop
+returns c = rule-failed (rule _ _) _ _ (c .before .file-placed .ensures) _ (search needs) (c .if1 .taken)
+
+add-r : tie.Need-add-r Inv-loop μ-loop
+add-r c = search needs
+
+loop-less : tie.Need-loop-less Inv-loop μ-loop
+loop-less c = search needs
+
+loop-again : tie.Need-loop-again Inv-loop μ-loop
+loop-again c = (refl, search needs, rule-passed (rule _ _) _ _ (c .before .file-placed .ensures) (search needs) (c .if1 .left))
+
+returns-2 : tie.Need-returns-2 Inv-loop μ-loop
+returns-2 c = rules-passed (rule _ _) _ _ (search needs) (search needs) (c .before .loop .inv .2)
+
+pub places-sound-spec : {M : Type 1} → statement M
+places-sound-spec =
+    tie.close
+    (tie.spec
+    Inv-loop
+    μ-loop
+    loop-holds
+    file-placed-requires
+    returns
+    add-r
+    loop-less
+    loop-again
+    returns-2)

@@ -1,0 +1,102 @@
+-- A directory's records in the block table: the table is itself a row of 16-byte records, 32 to a block, and record i of a
+-- directory is one of them.
+use Prim.Native.Nat.{ℕ, suc, _+_, _*_, _/_, _%_, _≤_, _<_}
+use mathlib.Core.Path.{_≡_, refl, sym, ap, _∙_}
+use mathlib.Core.List.{List, []}
+use mathlib.Core.Bool.{true}
+use native.Mathlib.Omega.{arith}
+use lib.ListN.{length, getD}
+use Rattle.records.specs.RowLaws.{length-listOf, getD-listOf}
+use Rattle.records.specs.Numbers.{one}
+use Rattle.meaning.specs.File.{needed, longest}
+use Rattle.meaning.specs.Name.{recordAt, entryAt, entryIn, isBlank}
+use Rattle.meaning.specs.Store.{Store}
+use Rattle.meaning.specs.Tables.{Tables, tables, storeOf, fileOf, byteOf, blockOf, blockCount, fileCount, lengthAt, fileLength}
+use Rattle.meaning.specs.Sound.{filesSound}
+use Rattle.names.specs.RecordNames.{record-at, record-same, blank-same}
+
+-- the store of all tables but channel records
+abbrev pub directoriesStore : List ℕ → List ℕ → List ℕ → Store
+directoriesStore blocks records files = storeOf (tables blocks records files [])
+
+-- the blocks of the first n places of file f, in a row
+pub record Starts (records : List ℕ) (f n : ℕ) (starts : List ℕ) : Type 0 where
+  pub each : (p : ℕ) → p < n → getD starts p 0 ≡ blockOf records f p
+
+-- where record i of a directory is, by the row of its blocks
+unfoldable pub slot : List ℕ → ℕ → ℕ
+slot starts i = 32 * getD starts (i / 32) 0 + i % 32
+
+-- what earlier rules have shown: tables of one block count, files of few places, and a block for each place
+pub record Placed (blocks records files : List ℕ) : Type 0 where
+  pub few-blocks : blockCount records ≤ 128
+  pub whole : length blocks ≡ 512 * blockCount records
+  pub few-files : fileCount files ≤ 64
+  pub short : (r : ℕ) → r < fileCount files → lengthAt files r ≤ longest
+  pub there : (f i : ℕ) → i < needed (fileLength files f) → blockOf records f i < blockCount records
+
+pub dir-length : (blocks records files : List ℕ) (r : ℕ) → length (directoriesStore blocks records files .file (suc r) .bytes) ≡ lengthAt files r
+unfolding storeOf fileOf
+dir-length blocks records files r = length-listOf (lengthAt files r) (byteOf (tables blocks records files []) (suc r))
+
+module _ (blocks records files : List ℕ) (placed : Placed blocks records files) (r : ℕ) (starts : List ℕ) (found : Starts records (suc r) (needed (lengthAt files r)) starts) where
+  abbrev dir : List ℕ
+  dir = directoriesStore blocks records files .file (suc r) .bytes
+
+  module _ (i : ℕ) (h : i < lengthAt files r / 16) where
+    -- record i lies in the block table
+    pub slot-inside : 16 * slot starts i + 16 ≤ length blocks
+    unfolding slot fileLength
+    slot-inside =
+        let place : i / 32 < needed (lengthAt files r) = omega arith in
+        let there : blockOf records (suc r) (i / 32) < blockCount records = placed .there (suc r) (i / 32) place in
+        omega (arith, found .each (i / 32) place, placed .whole)
+
+    byte-there : (j : ℕ) → j < 16 → one dir (16 * i + j) ≡ one blocks (16 * slot starts i + j)
+    unfolding slot storeOf fileOf byteOf one
+    byte-there j l =
+        let place : i / 32 < needed (lengthAt files r) = omega arith in
+        let where-place : (16 * i + j) / 512 ≡ i / 32 = omega arith in
+        let at : 512 * getD starts (i / 32) 0 + (16 * i + j) % 512 ≡ 16 * (32 * getD starts (i / 32) 0 + i % 32) + j = omega arith in
+        getD-listOf (lengthAt files r) (byteOf (tables blocks records files []) (suc r)) (16 * i + j) 0 (omega arith)
+        ∙ rw (where-place, ← found .each (i / 32) place, at)
+
+    pub slot-record : recordAt dir i ≡ recordAt blocks (slot starts i)
+    slot-record =
+        record-at dir i
+        ∙ record-same dir blocks (16 * i) (16 * slot starts i) byte-there (omega (arith, dir-length blocks records files r)) slot-inside
+        ∙ sym (record-at blocks (slot starts i))
+
+    pub slot-entry : entryAt dir i ≡ entryAt blocks (slot starts i)
+    unfolding entryAt
+    slot-entry = ap entryIn slot-record
+
+    pub slot-blank : isBlank dir i ≡ isBlank blocks (slot starts i)
+    unfolding isBlank
+    slot-blank = blank-same dir blocks (16 * i) (16 * slot starts i) byte-there
+
+-- the first n records of a directory lie in the block table
+pub record Within (blocks starts : List ℕ) (n : ℕ) : Type 0 where
+  pub few : n ≤ 2048
+  pub small : length blocks ≤ 65536
+  pub inside : (i : ℕ) → i < n → 16 * slot starts i + 16 ≤ length blocks
+
+pub within-less : (blocks starts : List ℕ) (n m : ℕ) → m ≤ n → Within blocks starts n → Within blocks starts m
+within-less blocks starts n m l w =
+    record { few = omega (arith, w .few); small = w .small; inside = λ i (h : i < m). w .inside i (omega arith) }
+
+pub within-placed : (blocks records files : List ℕ) → Placed blocks records files → (r : ℕ) → r < fileCount files →
+    (starts : List ℕ) → Starts records (suc r) (needed (lengthAt files r)) starts → Within blocks starts (lengthAt files r / 16)
+within-placed blocks records files placed r h starts found =
+    record {
+      few = omega (arith, placed .short r h);
+      small = omega (arith, placed .whole, placed .few-blocks);
+      inside = slot-inside blocks records files placed r starts found;
+    }
+
+module _ (blocks starts : List ℕ) (n : ℕ) (w : Within blocks starts n) (i : ℕ) (h : i < n) where
+  pub slot-small : (i < 2048) × (slot starts i < 4096)
+  slot-small = omega (arith, w .few, w .small, w .inside i h)
+
+  pub slot-fits : (k : ℕ) → k ≡ slot starts i → 16 * k + 16 ≤ length blocks
+  slot-fits k e = omega (arith, w .inside i h)

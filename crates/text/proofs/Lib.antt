@@ -1,0 +1,4 @@
+pub mod ArgumentLaws
+pub mod ReadLaws
+pub mod DigitLaws
+pub mod PrintLaws

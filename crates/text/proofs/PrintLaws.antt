@@ -1,0 +1,107 @@
+-- Laws of what is printed, as the code meets them: numbers and hex one behind another, and a line's end.
+use Prim.Native.Nat.{ℕ, _+_, _*_, _≤_}
+use mathlib.Core.Path.{_≡_, refl, _∙_}
+use mathlib.Core.Logic.{⊎-elim}
+use mathlib.Core.List.{List, [], _∷_, _++_, append-nil}
+use mathlib.Core.Bool.{true, false}
+use native.Mathlib.Omega.{arith}
+use lib.ListN.{length}
+use lib.Dec.{eqb}
+use borrow.Author.Tests.{eqb-true}
+use Rattle.records.specs.Tests.{tested}
+use Rattle.meaning.specs.Run.{Answer, refusal, numbers, numberOf}
+use Rattle.meaning.specs.Answers.{reported}
+use Rattle.meaning.specs.declared.Report.{Report}
+use Rattle.text.specs.Line.{space}
+use Rattle.text.specs.Print.{digits, decimal, hex, hexWord, spaced, printed, newline}
+use Rattle.text.specs.Lays.{Lays, LaysAtMost}
+use Rattle.text.specs.LaysLaws.{lays-none, lays-both}
+
+-- ---- numbers
+
+pub zero-is : decimal 0 ≡ 48 ∷ []
+unfolding decimal digits
+zero-is = refl
+
+pub spaced-one : (n : ℕ) → spaced (n ∷ []) ≡ space ∷ decimal n
+unfolding spaced
+spaced-one n = append-nil (space ∷ decimal n)
+
+module _ (out between after : List ℕ) (at middle next n : ℕ) where
+  -- a number behind a space
+  pub behind-space : Lays out at (space ∷ []) between middle → LaysAtMost 10 between middle (decimal n) after next
+      → LaysAtMost 11 out at (space ∷ decimal n) after next
+  behind-space p q =
+      record { lays = lays-both (space ∷ []) (decimal n) out between after at middle next p (q .lays); near = omega (arith, p .ends, q .near) }
+
+  -- a number behind the report
+  pub behind-zero : Lays out at (48 ∷ []) between middle → LaysAtMost 11 between middle (space ∷ decimal n) after next
+      → LaysAtMost 12 out at (decimal 0 ++ spaced (n ∷ [])) after next
+  behind-zero p q =
+      record {
+        lays = rw (zero-is, spaced-one n) (lays-both (48 ∷ []) (space ∷ decimal n) out between after at middle next p (q .lays));
+        near = omega (arith, p .ends, q .near);
+      }
+
+-- ---- hex
+
+hex-length : (bytes : List ℕ) → length (hex bytes) ≡ 2 * length bytes
+unfolding hex
+hex-length [] = refl
+hex-length (b ∷ bytes) = omega (arith, hex-length bytes)
+
+pub hex-word-length : (bytes : List ℕ) → length (hexWord bytes) ≤ 1 + 2 * length bytes
+unfolding hexWord
+hex-word-length [] = omega arith
+hex-word-length (b ∷ bytes) = omega (arith, hex-length (b ∷ bytes))
+
+-- no bytes, no word
+pub no-word : (bytes out : List ℕ) (at : ℕ) → length bytes ≡ 0 → Lays out at (hexWord bytes) out at
+unfolding hexWord
+no-word [] out at e = lays-none out at
+no-word (b ∷ bytes) out at e = absurd (omega arith)
+
+-- some bytes: a space, and their hex
+pub a-word : (bytes out between after : List ℕ) (at middle next : ℕ) → (length bytes ≡ 0 → ⊥) → Lays out at (space ∷ []) between middle
+    → Lays between middle (hex bytes) after next → Lays out at (hexWord bytes) after next
+unfolding hexWord
+a-word [] out between after at middle next d p q = absurd (d refl)
+a-word (b ∷ bytes) out between after at middle next d p q = lays-both (space ∷ []) (hex (b ∷ bytes)) out between after at middle next p q
+
+-- ---- lines
+
+-- a report alone
+pub printed-report : (r : Report) → printed (reported r) [] ≡ decimal (numberOf r)
+unfolding printed reported spaced hexWord
+printed-report r =
+    ⊎-elim
+    (λ (e : eqb (numberOf r) 0 ≡ true). rw (e, eqb-true (numberOf r) 0 e) (append-nil (decimal 0 ++ []) ∙ append-nil (decimal 0)))
+    (λ (e : eqb (numberOf r) 0 ≡ false). rw e)
+    (tested (eqb (numberOf r) 0))
+
+-- the same answer under another name
+pub line-as : (a b : Answer) (bytes out after : List ℕ) (at next : ℕ) → a ≡ b → Lays out at (printed b bytes ++ newline ∷ []) after next
+    → Lays out at (printed a bytes ++ newline ∷ []) after next
+line-as a b bytes out after at next e l = rw e l
+
+-- a refusal
+pub refusal-line : (a : Answer) (why : Report) (bytes out after : List ℕ) (at next : ℕ) → a ≡ refusal why
+    → Lays out at (decimal (numberOf why) ++ newline ∷ []) after next → Lays out at (printed a bytes ++ newline ∷ []) after next
+unfolding printed
+refusal-line a why bytes out after at next e l = rw e l
+
+-- numbers, then hex
+pub numbers-line : (a : Answer) (ns bytes out one two after : List ℕ) (at middle end next : ℕ) → a ≡ numbers ns
+    → Lays out at (decimal 0 ++ spaced ns) one middle → Lays one middle (hexWord bytes) two end → Lays two end (newline ∷ []) after next
+    → Lays out at (printed a bytes ++ newline ∷ []) after next
+unfolding printed
+numbers-line a ns bytes out one two after at middle end next e p q r =
+    rw e
+    (lays-both (decimal 0 ++ spaced ns ++ hexWord bytes) (newline ∷ []) out two after at end next
+    (lays-both (decimal 0 ++ spaced ns) (hexWord bytes) out one two at middle end p q) r)
+
+-- numbers alone
+pub numbers-alone : (ns out one after : List ℕ) (at middle next : ℕ) → Lays out at (decimal 0 ++ spaced ns) one middle
+    → Lays one middle (newline ∷ []) after next → Lays out at (printed (numbers ns) [] ++ newline ∷ []) after next
+numbers-alone ns out one after at middle next p r =
+    numbers-line (numbers ns) ns [] out one one after at middle middle next refl p (no-word [] one middle refl) r
