@@ -1,11 +1,13 @@
 -- Laws of what is printed, as the code meets them: numbers and hex one behind another, and a line's end.
-use Prim.Native.Nat.{ℕ, _+_, _*_, _≤_}
+use Prim.Native.Nat.{ℕ, _+_, _*_, _≤_, _<_}
 use mathlib.Core.Path.{_≡_, refl, _∙_}
 use mathlib.Core.Logic.{⊎-elim}
 use mathlib.Core.List.{List, [], _∷_, _++_, append-nil}
 use mathlib.Core.Bool.{true, false}
 use native.Mathlib.Omega.{arith}
-use lib.ListN.{length}
+use native.Mathlib.Numerals.{add-one}
+use lib.ListN.{length, take, getD}
+use lib.Seq.{take-suc, take-all}
 use lib.Dec.{eqb}
 use borrow.Author.Tests.{eqb-true}
 use Rattle.records.specs.Tests.{tested}
@@ -43,7 +45,29 @@ module _ (out between after : List ℕ) (at middle next n : ℕ) where
         near = omega (arith, p .ends, q .near);
       }
 
+-- ---- a row of bytes, one after another, in a form g
+
+pub each-start : (g : List ℕ → List ℕ) → g [] ≡ [] → (out : List ℕ) (at : ℕ) (bytes : List ℕ) → Lays out at (g (take 0 bytes)) out at
+each-start g nil out at bytes = rw nil (lays-none out at)
+
+module _ (g : List ℕ → List ℕ) (in-a-row : (xs ys : List ℕ) → g (xs ++ ys) ≡ g xs ++ g ys) where
+  pub each-more : (out₀ : List ℕ) (at : ℕ) (bytes : List ℕ) (i : ℕ) (out : List ℕ) (next : ℕ) → Lays out₀ at (g (take i bytes)) out next
+      → i < length bytes → (out′ : List ℕ) (next′ : ℕ) → Lays out next (g (getD bytes i 0 ∷ [])) out′ next′
+      → Lays out₀ at (g (take (i + 1) bytes)) out′ next′
+  each-more out₀ at bytes i out next so-far h out′ next′ l =
+      rw (add-one i, take-suc bytes i 0 h, in-a-row (take i bytes) (getD bytes i 0 ∷ []))
+      (lays-both (g (take i bytes)) (g (getD bytes i 0 ∷ [])) out₀ out out′ at next next′ so-far l)
+
+  pub each-all : (out₀ : List ℕ) (at : ℕ) (bytes : List ℕ) (i : ℕ) (out : List ℕ) (next : ℕ) → Lays out₀ at (g (take i bytes)) out next
+      → length bytes ≤ i → Lays out₀ at (g bytes) out next
+  each-all out₀ at bytes i out next so-far h = rw (take-all i bytes h) at so-far
+
 -- ---- hex
+
+pub hex-append : (xs ys : List ℕ) → hex (xs ++ ys) ≡ hex xs ++ hex ys
+unfolding hex
+hex-append [] ys = refl
+hex-append (x ∷ xs) ys = rw (hex-append xs ys)
 
 hex-length : (bytes : List ℕ) → length (hex bytes) ≡ 2 * length bytes
 unfolding hex

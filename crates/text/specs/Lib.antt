@@ -7,3 +7,6 @@ pub mod Words
 pub mod Arguments
 pub mod Lays
 pub mod LaysLaws
+pub mod Gathering
+pub mod GatheringLaws
+pub mod Cuts
