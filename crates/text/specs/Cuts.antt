@@ -11,8 +11,8 @@ use lib.Dec.{eqb}
 use Rattle.records.specs.Rows.{pick, lowest, lowestFrom}
 use Rattle.records.specs.Tests.{tested}
 use Rattle.records.specs.Numbers.{one}
-use Rattle.text.specs.Print.{newline}
-use Rattle.text.specs.Program.{unended, linesFrom, lines}
+use Rattle.text.specs.Print.{newline, transcript}
+use Rattle.text.specs.Program.{unended, linesFrom, lines, atStart, written}
 use Rattle.text.specs.Commands.{firstOf}
 use Rattle.text.specs.Gathering.{firstLine}
 
@@ -35,9 +35,9 @@ left line (b ∷ piece) =
     pick (eqb b newline) next same
 
 -- the lines of the pieces: those that end in each, and what is left at the end
-unfoldable pub served : List ℕ → List (List ℕ) → List (List ℕ)
-served line [] = unended line
-served line (piece ∷ pieces) = completed line piece ++ served (left line piece) pieces
+unfoldable pub linesOver : List ℕ → List (List ℕ) → List (List ℕ)
+linesOver line [] = unended line
+linesOver line (piece ∷ pieces) = completed line piece ++ linesOver (left line piece) pieces
 
 -- the pieces in a row
 unfoldable pub joined : List (List ℕ) → List ℕ
@@ -58,15 +58,20 @@ cut line (b ∷ piece) input = go (eqb b newline) (cut [] piece input) (cut (lin
     go true next same = ap (λ ls. line ∷ ls) next
     go false next same = same
 
-served-all : (line : List ℕ) (pieces : List (List ℕ)) → served line pieces ≡ linesFrom line (joined pieces)
-unfolding served joined linesFrom
-served-all line [] = refl
-served-all line (piece ∷ pieces) = ap (λ ls. completed line piece ++ ls) (served-all (left line piece) pieces) ∙ sym (cut line piece (joined pieces))
+over-all : (line : List ℕ) (pieces : List (List ℕ)) → linesOver line pieces ≡ linesFrom line (joined pieces)
+unfolding linesOver joined linesFrom
+over-all line [] = refl
+over-all line (piece ∷ pieces) = ap (λ ls. completed line piece ++ ls) (over-all (left line piece) pieces) ∙ sym (cut line piece (joined pieces))
 
 -- the theorem: over any cut of the input into pieces, the lines served are the lines of the input
-pub any-cut : (pieces : List (List ℕ)) → served [] pieces ≡ lines (joined pieces)
+pub any-cut : (pieces : List (List ℕ)) → linesOver [] pieces ≡ lines (joined pieces)
 unfolding lines
-any-cut pieces = served-all [] pieces
+any-cut pieces = over-all [] pieces
+
+-- and so is all that is written
+pub any-cut-writes : (pieces : List (List ℕ)) → transcript (linesOver [] pieces) atStart ≡ written (joined pieces)
+unfolding written
+any-cut-writes pieces = ap (λ ls. transcript ls atStart) (any-cut pieces)
 
 -- ---- one line at a time
 

@@ -3,6 +3,7 @@ pub mod Print
 pub mod Program
 pub mod Examples
 pub mod Commands
+pub mod CommandLaws
 pub mod Words
 pub mod Arguments
 pub mod Lays

@@ -38,7 +38,7 @@ module _ (buffer bytes : List ℕ) (p : Pending) (room : longestLine ≤ length 
         fits = fits′;
         grows = λ line q. record {
           fits = fits′;
-          keeps = rw (in-buffer line p buffer q e) (sym (laid-up-to buffer (p .len) bytes after end l (omega arith)));
+          keeps = rw (in-buffer line p buffer q e) (sym (laid-up-to buffer (p .len) bytes after end l));
         };
       }
 

@@ -14,6 +14,9 @@ use Rattle.text.proofs.print.put_bytes.Tie as tie
 abbrev alike : List ℕ → List ℕ
 alike xs = xs
 
+start : (out : List ℕ) (at : ℕ) (bytes : List ℕ) → at + length bytes ≤ length out → Lays out at (take 0 bytes) out at
+start out at bytes h = each-start alike refl out at bytes (omega arith)
+
 next-place : (out out′ : List ℕ) (at i next next′ b : ℕ) → next ≡ at + i → Lays out next (b ∷ []) out′ next′ → next′ ≡ at + (i + 1)
 next-place out out′ at i next next′ b e l = omega (arith, l .ends)
 
@@ -25,7 +28,7 @@ abbrev μ-loop : tie.MeasureT-loop
 μ-loop out₀ at bytes next₀ i₀ out next i = length bytes - i
 
 loop-holds : tie.Need-loop-holds Inv-loop μ-loop
-loop-holds c = (search needs, search needs, search needs, search (each-start alike refl))
+loop-holds c = (search needs, search needs, search needs, search start)
 
 shared-slice-read-put-byte : tie.Need-shared-slice-read-put-byte Inv-loop μ-loop
 shared-slice-read-put-byte c = search needs

@@ -11,9 +11,9 @@ use borrow.Author.Needs.{needs}
 use Rattle.text.proofs.print.put_hex.Statement.{statement}
 use Rattle.text.proofs.print.put_hex.Tie as tie
 
-hex-start : (out : List ℕ) (at : ℕ) (bytes : List ℕ) → Lays out at (hex (take 0 bytes)) out at
+hex-start : (out : List ℕ) (at : ℕ) (bytes : List ℕ) → at + 2 * length bytes ≤ length out → Lays out at (hex (take 0 bytes)) out at
 unfolding hex
-hex-start = each-start hex refl
+hex-start out at bytes h = each-start hex refl out at bytes (omega arith)
 
 next-place : (out out′ : List ℕ) (at i next next′ b : ℕ) → next ≡ at + 2 * i → Lays out next (hex (b ∷ [])) out′ next′ → next′ ≡ at + 2 * (i + 1)
 unfolding hex
