@@ -1,11 +1,10 @@
 -- A channel is opened, moved or closed: the shape stays, and so do the names that files need, but for the file that it held.
-use Prim.Native.Nat.{ℕ, _+_, _≤_, _<_}
+use Prim.Native.Nat.{ℕ, _<_}
 use mathlib.Core.Path.{_≡_, refl, ap, sym, _∙_}
 use mathlib.Core.Logic.{_≢_, _⊎_, inl, inr, ⊎-elim}
-use mathlib.Core.List.{List}
-use mathlib.Core.Bool.{Bool, true, false}
+use mathlib.Core.Bool.{Bool, true}
 use native.Mathlib.Omega.{arith}
-use lib.Dec.{ltb, eqb}
+use lib.Dec.{eqb}
 use borrow.Author.Tests.{ne-eqb, lt-ltb, ltb-true}
 use Rattle.records.specs.Rows.{tally, howMany}
 use Rattle.records.specs.RowLaws.{howMany-update}

@@ -1,19 +1,17 @@
 -- A file without records is written, made or freed: the shape stays, and who is named how often.
-use Prim.Native.Nat.{ℕ, zero, suc, _+_, _-_, _≤_, _<_}
+use Prim.Native.Nat.{ℕ, suc, _+_, _-_, _≤_, _<_}
 use mathlib.Core.Path.{_≡_, refl, ap, sym, _∙_}
 use mathlib.Core.Logic.{_≢_, _⊎_, inl, inr, ⊎-elim}
-use mathlib.Core.List.{List, []}
-use mathlib.Core.Bool.{Bool, true, false, true≢false}
+use mathlib.Core.List.{[]}
+use mathlib.Core.Bool.{Bool, true, false}
 use native.Mathlib.Omega.{arith}
-use lib.ListN.{length}
 use Rattle.records.specs.Rows.{pick, sum, every}
 use Rattle.records.specs.RowLaws.{sum-update}
-use Rattle.records.specs.Tests.{tested, same-or-not}
-use Rattle.meaning.specs.Name.{recordCount, recordAt, entryAt, isBlank, same, namesIn, isEmpty}
+use Rattle.records.specs.Tests.{same-or-not}
+use Rattle.meaning.specs.Name.{recordCount, entryAt, namesIn, isEmpty}
 use Rattle.meaning.specs.Store.{Store, File, file, after, root, inUse, isDirectory, names, held}
-use Rattle.names.specs.ByteLaws.{not-false-true}
-use Rattle.soundness.specs.Use.{Used, used, of-used, directory-used, directory-kind, of-directory}
-use Rattle.soundness.specs.Well.{FileForm, TopDirectory, ChannelForm, NamingRecord, RecordForm, as-blank, as-naming}
+use Rattle.soundness.specs.Use.{used, of-used, directory-used, directory-kind}
+use Rattle.soundness.specs.Well.{FileForm, ChannelForm, RecordForm}
 use Rattle.trees.specs.AfterFile.{file-changed, file-other, held-file, same-use, same-directory}
 use Rattle.trees.specs.Rewrite.{givenBy}
 use Rattle.keeping.specs.Shape.{Shape, Counted, channel-moved, record-moved}

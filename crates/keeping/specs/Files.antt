@@ -1,21 +1,18 @@
 -- An ordinary file written; a file made, that has still to get its name; a file freed; a file let go where nothing refers to it.
-use Prim.Native.Nat.{ℕ, suc, _+_, _≤_, _<_}
+use Prim.Native.Nat.{ℕ, _≤_, _<_}
 use mathlib.Core.Path.{_≡_, refl, ap, sym, _∙_}
 use mathlib.Core.Logic.{_≢_, _⊎_, inl, inr, ⊎-elim}
 use mathlib.Core.List.{List, [], _∷_}
-use mathlib.Core.Bool.{Bool, true, false, not, _&&_, true≢false}
+use mathlib.Core.Bool.{Bool, true, false, true≢false}
 use native.Mathlib.Omega.{arith}
 use lib.ListN.{length}
-use lib.Dec.{eqb}
-use borrow.Author.Tests.{eqb-true, eqb-false, eq-eqb, ne-eqb, not-true}
 use Rattle.records.specs.Rows.{pick}
-use Rattle.records.specs.Tests.{tested, same-or-not, and-both}
+use Rattle.records.specs.Tests.{tested, same-or-not}
 use Rattle.meaning.specs.File.{longest}
-use Rattle.meaning.specs.Name.{isEmpty}
-use Rattle.meaning.specs.Store.{Store, File, Change, file, after, afterAll, noFile, ordinary, root, inUse, isDirectory, names, held, isOrphan, letGo}
+use Rattle.meaning.specs.Store.{Store, File, file, after, noFile, ordinary, root, inUse, isDirectory, names, held, isOrphan, letGo}
 use Rattle.names.specs.ByteLaws.{not-false-true}
 use Rattle.soundness.specs.Use.{used, directory-kind, not-directory}
-use Rattle.soundness.specs.Well.{FreeFile, OrdinaryFile, FileForm, as-free, as-ordinary, Well}
+use Rattle.soundness.specs.Well.{FileForm, as-free, as-ordinary, Well}
 use Rattle.soundness.specs.WellFacts.{root-directory, form-ordinary}
 use Rattle.layout.specs.Fits.{FitsAll}
 use Rattle.trees.specs.AfterFile.{file-changed, held-file}

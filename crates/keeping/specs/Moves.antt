@@ -1,12 +1,10 @@
 -- A move is refused exactly where link is: after it, the old name's unlink finds the file.
-use Prim.Native.Nat.{ℕ, _+_, _-_, _≤_, _<_}
+use Prim.Native.Nat.{ℕ, _+_, _-_, _<_}
 use mathlib.Core.Path.{_≡_, refl, ap, sym, _∙_}
-use mathlib.Core.Logic.{_≢_}
 use mathlib.Core.List.{List, [], _∷_, _++_}
-use mathlib.Core.Bool.{Bool, true, false}
-use mathlib.Core.Option.{Option, none, some}
+use mathlib.Core.Bool.{false}
+use mathlib.Core.Option.{some}
 use native.Mathlib.Omega.{arith}
-use lib.ListN.{length}
 use Rattle.meaning.specs.Name.{syllables}
 use Rattle.meaning.specs.Store.{Store, Change, file, afterAll, isDirectory, named, letGo}
 use Rattle.meaning.specs.Result.{Result, refused, done, unless, withSyllables, missing, nowhere}

@@ -1,15 +1,15 @@
 -- A name is taken from its file, or given to one: the shape stays, and every file has the names that it needs
 -- but for the one that the name stood for.
-use Prim.Native.Nat.{ℕ, suc, _+_, _-_, _*_, _≤_, _<_, max}
+use Prim.Native.Nat.{ℕ, _+_, _-_, _*_, _≤_, _<_}
 use mathlib.Core.Path.{_≡_, refl, ap, sym, _∙_}
 use mathlib.Core.Logic.{_≢_, ⊎-elim}
-use mathlib.Core.List.{List, []}
-use mathlib.Core.Bool.{Bool, true, false, true≢false}
+use mathlib.Core.List.{List}
+use mathlib.Core.Bool.{true, false, true≢false}
 use mathlib.Core.Option.{some}
 use native.Mathlib.Omega.{arith}
 use lib.ListN.{length}
 use borrow.Author.Tests.{eqb-true}
-use Rattle.records.specs.Tests.{tested, same-or-not}
+use Rattle.records.specs.Tests.{tested}
 use Rattle.meaning.specs.File.{needed, longest}
 use Rattle.meaning.specs.Name.{Entry, entry, isSyllable, syllables, written, entryIn, blankRecord, recordCount, entryAt, withEntry}
 use Rattle.meaning.specs.Store.{Store, root, inUse, isDirectory, freeBlocks, named, names, last}
@@ -25,7 +25,7 @@ use Rattle.trees.specs.Rewrite.{Rewriting, withRecord}
 use Rattle.trees.specs.Standing.{Place, Standing, Vacant, standing, vacant, some-syllable, last-spelled}
 use Rattle.trees.specs.Naming.{withoutName, is-written, blank-entry, unnaming-rewrites}
 use Rattle.keeping.specs.Shape.{Shape, Counted, shape, counted}
-use Rattle.keeping.specs.RecordStep.{NewRecord, as-blanked, as-named, Names, shape-record}
+use Rattle.keeping.specs.RecordStep.{as-blanked, as-named, shape-record}
 use Rattle.keeping.specs.RecordCount.{counted-record}
 use Rattle.keeping.specs.Sure.{Sized, smaller-fits}
 

@@ -1,26 +1,26 @@
 -- create and make directory: a new file with the lowest free number, and its name. The file is made first and then gets its name,
 -- which leaves the same store.
 use Prim.Native.Nat.{ℕ, suc, _+_, _-_, _≤_, _<_}
-use mathlib.Core.Path.{_≡_, refl, ap, sym, _∙_}
-use mathlib.Core.Logic.{_≢_, ⊎-elim}
+use mathlib.Core.Path.{_≡_, refl, _∙_}
+use mathlib.Core.Logic.{_≢_}
 use mathlib.Core.List.{List, [], _∷_}
-use mathlib.Core.Bool.{Bool, true, false, not, true≢false}
+use mathlib.Core.Bool.{true, false, not}
 use mathlib.Core.Option.{some}
 use native.Mathlib.Omega.{arith}
 use lib.ListN.{length, length-take}
-use lib.Dec.{ltb, eqb}
+use lib.Dec.{eqb}
 use borrow.Author.Tests.{ltb-false, eqb-true, eqb-false, not-false}
-use Rattle.records.specs.Rows.{pick, lowest}
+use Rattle.records.specs.Rows.{lowest}
 use Rattle.records.specs.RowLaws.{lowest-hit}
 use Rattle.meaning.specs.File.{needed, longest}
 use Rattle.meaning.specs.Name.{entry, syllables, written, entryAt, withEntry, mostSyllables}
-use Rattle.meaning.specs.Store.{Store, File, Change, file, channel, after, afterAll, channelTo, ordinary, directory, root, inUse, isDirectory, freeBlocks, freeFile, freeChannel, named, names, front, last}
-use Rattle.meaning.specs.Result.{Result, done, missing, nowhere, allOpen, allUsed, ifFits}
+use Rattle.meaning.specs.Store.{Store, File, Change, file, channel, after, afterAll, channelTo, ordinary, directory, inUse, isDirectory, freeBlocks, freeFile, freeChannel, named, front, last}
+use Rattle.meaning.specs.Result.{missing, nowhere, allOpen, allUsed}
 use Rattle.meaning.specs.NameCalls.{parent, recordFor, rewritten, naming, ifNamingFits, create, mkdir}
 use Rattle.meaning.specs.declared.Report.the-variants.{BadName, NoSuchName, NoFreeCids, IsDirectory, NoFreeFids, NameInUse}
 use Rattle.names.specs.ReadLaws.{read}
-use Rattle.soundness.specs.Use.{Used, used, of-used, directory-kind}
-use Rattle.soundness.specs.Well.{FileForm, OrdinaryFile, DirectoryFile, as-ordinary, as-directory, Well}
+use Rattle.soundness.specs.Use.{used, of-used, directory-kind}
+use Rattle.soundness.specs.Well.{FileForm, as-ordinary, as-directory, Well}
 use Rattle.trees.specs.AfterFile.{file-changed, file-other, files-swap}
 use Rattle.trees.specs.Rewrite.{withRecord}
 use Rattle.trees.specs.Standing.{Place, Vacant}

@@ -1,34 +1,32 @@
 -- The calls on a channel, and open, room and ls: each leaves a well-formed store.
-use Prim.Native.Nat.{ℕ, _+_, _-_, _≤_, _<_, min}
-use mathlib.Core.Path.{_≡_, refl, ap, sym, _∙_}
-use mathlib.Core.Logic.{_≢_, _⊎_, inl, inr, ⊎-elim}
+use Prim.Native.Nat.{ℕ, _+_, _-_, _≤_, _<_}
+use mathlib.Core.Path.{_≡_, refl, sym, _∙_}
+use mathlib.Core.Logic.{_≢_, _⊎_, ⊎-elim}
 use mathlib.Core.List.{List, [], _∷_}
-use mathlib.Core.Bool.{Bool, true, false, not, _&&_, _||_, true≢false}
+use mathlib.Core.Bool.{true, false, not, _||_, true≢false}
 use mathlib.Core.Option.{some}
 use native.Mathlib.Omega.{arith}
 use lib.ListN.{length}
 use lib.Dec.{ltb, eqb}
-use borrow.Author.Tests.{ltb-true, ltb-false, eqb-true, eqb-false, not-false}
+use borrow.Author.Tests.{ltb-true, ltb-false, eqb-true, not-false}
 use Rattle.records.specs.RowLaws.{lowest-hit}
 use Rattle.records.specs.Tests.{and-left, or-right, same-or-not}
-use Rattle.meaning.specs.File.{readFILE, writeFILE, needed, longest}
-use Rattle.meaning.specs.FileLaws.{length-read, length-write}
-use Rattle.meaning.specs.Name.{syllables, nameCount}
-use Rattle.meaning.specs.Store.{Store, Channel, Change, file, channel, after, afterAll, noChannel, channelTo, ordinary, root, inUse, isDirectory, isOpen, freeChannel, named, names, letGo}
-use Rattle.meaning.specs.Result.{Result, done, unless, onChannel, missing, allOpen, ifFits}
-use Rattle.meaning.specs.ChannelCalls.{close, read, write, seek, seekTo, fstat, room, lastPosition}
+use Rattle.meaning.specs.File.{readFILE}
+use Rattle.meaning.specs.FileLaws.{length-read}
+use Rattle.meaning.specs.Name.{syllables}
+use Rattle.meaning.specs.Store.{Store, Channel, file, channel, afterAll, channelTo, root, inUse, isDirectory, isOpen, freeChannel, named}
+use Rattle.meaning.specs.Result.{missing, allOpen}
+use Rattle.meaning.specs.ChannelCalls.{read, seek, seekTo, fstat, room, lastPosition}
 use Rattle.meaning.specs.NameCalls.{open′, ls}
-use Rattle.meaning.specs.declared.Report.the-variants.{NoSuchName, NoFreeCids, IsDirectory, NotDirectory, BadSeek, OutShort}
+use Rattle.meaning.specs.declared.Report.the-variants.{NoSuchName, NoFreeCids, NotDirectory, BadSeek, OutShort}
 use Rattle.names.specs.ByteLaws.{not-false-true}
-use Rattle.layout.specs.Fits.{Fits, FitsAll, ChannelFits}
-use Rattle.soundness.specs.Use.{Used, used, of-used, directory-used, directory-kind}
-use Rattle.soundness.specs.Well.{OpenChannel, FreeChannel, ChannelForm, Well}
+use Rattle.layout.specs.Fits.{ChannelFits}
+use Rattle.soundness.specs.Use.{used, of-used, directory-used}
+use Rattle.soundness.specs.Well.{ChannelForm, Well}
 use Rattle.soundness.specs.WellFacts.{file-size, root-directory, open-channel, held-used}
 use Rattle.trees.specs.Standing.{standing, some-syllable, last-spelled}
-use Rattle.keeping.specs.Shape.{shape}
-use Rattle.keeping.specs.ChannelStep.{use-there, directory-there, names-there, shape-channel, counted-channel, moved-well, opened-well}
-use Rattle.keeping.specs.Sure.{Sure, Good, Sized, past, with-name, on-channel, if-fits, sure-then}
-use Rattle.keeping.specs.Files.{rewritten-well, let-go}
+use Rattle.keeping.specs.ChannelStep.{moved-well, opened-well}
+use Rattle.keeping.specs.Sure.{Sure, Good, Sized, past, with-name, on-channel}
 
 -- what a name stands for is in use
 pub named-used : (s : Store) → Well s → Sized s → (bytes : List ℕ) (name : List (List ℕ)) → syllables bytes ≡ some name → missing s name ≡ false → inUse s (named s name) ≡ true

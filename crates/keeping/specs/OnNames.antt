@@ -1,28 +1,27 @@
 -- unlink, link, move and remove directory: each leaves a well-formed store.
-use Prim.Native.Nat.{ℕ, suc, _+_, _-_, _≤_, _<_}
+use Prim.Native.Nat.{ℕ, _-_, _≤_}
 use mathlib.Core.Path.{_≡_, refl, ap, sym, _∙_}
-use mathlib.Core.Logic.{_≢_, ⊎-elim}
-use mathlib.Core.List.{List, [], _∷_, _++_}
-use mathlib.Core.Bool.{Bool, true, false, not, _||_, true≢false}
+use mathlib.Core.Logic.{_≢_}
+use mathlib.Core.List.{List, [], _∷_}
+use mathlib.Core.Bool.{true, false, not, _||_, true≢false}
 use mathlib.Core.Option.{some}
 use native.Mathlib.Omega.{arith}
 use lib.ListN.{length}
 use lib.Dec.{eqb}
-use borrow.Author.Tests.{eq-eqb, eqb-false, not-false}
+use borrow.Author.Tests.{eq-eqb, not-false}
 use Rattle.records.specs.Rows.{tally, every}
 use Rattle.records.specs.RowLaws.{every-all}
-use Rattle.records.specs.Tests.{or-left, or-right, same-or-not}
+use Rattle.records.specs.Tests.{or-left, or-right}
 use Rattle.meaning.specs.File.{needed, longest}
 use Rattle.meaning.specs.Name.{syllables, blankRecord, recordCount, isBlank, isEmpty}
-use Rattle.meaning.specs.Store.{Store, File, Change, file, after, afterAll, noFile, root, inUse, isDirectory, freeBlocks, named, names, held, letGo, last}
-use Rattle.meaning.specs.Result.{Result, refused, done, onName, missing, nowhere, ifFits}
+use Rattle.meaning.specs.Store.{Store, Change, file, afterAll, noFile, root, isDirectory, freeBlocks, named, held, letGo, last}
+use Rattle.meaning.specs.Result.{Result, refused, done, missing, nowhere}
 use Rattle.meaning.specs.NameCalls.{parent, recordFor, rewritten, naming, unnaming, ifNamingFits, link, unlink, rmdir, move, andThen, withChanges}
 use Rattle.meaning.specs.declared.Report.the-variants.{NoSuchName, IsDirectory, NotDirectory, NotEmpty, InUse}
 use Rattle.names.specs.ByteLaws.{not-false-true}
-use Rattle.layout.specs.Fits.{FileFits}
 use Rattle.layout.specs.Room.{same-files}
 use Rattle.soundness.specs.Use.{used, directory-used}
-use Rattle.soundness.specs.Well.{FreeFile, as-free, Well}
+use Rattle.soundness.specs.Well.{as-free, Well}
 use Rattle.trees.specs.Rewrite.{other-file, directory-same, held-same}
 use Rattle.trees.specs.Standing.{Place, Standing}
 use Rattle.trees.specs.Naming.{withName, withoutName, naming-rewrites, unnaming-rewrites, names-unnamed}
@@ -31,7 +30,7 @@ use Rattle.keeping.specs.FileStep.{Refiled}
 use Rattle.keeping.specs.Sure.{Sure, Good, Sized, past, with-name, if-fits, smaller-fits, sure-then, sure-both, sized-after}
 use Rattle.keeping.specs.Files.{freed-well, let-go}
 use Rattle.keeping.specs.OnChannels.{named-used}
-use Rattle.keeping.specs.Named.{plain-other, other-standing, plain-place, named-fits, unnamed-fits, unnamed-shape, unnamed-counted, Spot, spot, Nameable, given-shape, given-counted}
+use Rattle.keeping.specs.Named.{plain-other, other-standing, plain-place, named-fits, unnamed-fits, unnamed-shape, unnamed-counted, spot, Nameable, given-shape, given-counted}
 
 module _ (s : Store) (w : Well s) (z : Sized s) where
   -- ---- unlink: the name is taken, and the file let go

@@ -1,17 +1,16 @@
 -- A prepared store is well formed: the root is an empty directory, and nothing else is there.
-use Prim.Native.Nat.{ℕ, _≤_, _<_}
+use Prim.Native.Nat.{ℕ, _<_}
 use mathlib.Core.Path.{_≡_, refl, ap, sym, _∙_}
 use mathlib.Core.Logic.{_≢_, ⊎-elim}
 use mathlib.Core.List.{[]}
-use mathlib.Core.Bool.{true, false, true≢false}
+use mathlib.Core.Bool.{true, true≢false}
 use native.Mathlib.Omega.{arith}
-use lib.Dec.{eqb}
 use borrow.Author.Tests.{ne-eqb}
 use Rattle.records.specs.Tests.{same-or-not}
 use Rattle.meaning.specs.Name.{recordCount}
 use Rattle.meaning.specs.Store.{Store, File, prepared, after, noFile, directory, root, inUse, isDirectory}
 use Rattle.soundness.specs.Use.{used, of-used, directory-used, of-directory}
-use Rattle.soundness.specs.Well.{FreeFile, DirectoryFile, FileForm, as-free, as-directory, FreeChannel, ChannelForm, Well}
+use Rattle.soundness.specs.Well.{FileForm, as-free, as-directory, ChannelForm, Well}
 
 module _ (s : Store) where
   abbrev s′ : Store

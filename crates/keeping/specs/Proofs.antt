@@ -3,20 +3,20 @@ use Prim.Native.Nat.{ℕ, suc, _+_, _≤_, _<_}
 use mathlib.Core.Path.{_≡_, refl, ap, sym, _∙_}
 use mathlib.Core.Logic.{_≢_, ⊎-elim}
 use mathlib.Core.List.{List, [], _∷_}
-use mathlib.Core.Bool.{Bool, true, false, not, true≢false}
+use mathlib.Core.Bool.{Bool, true, false, true≢false}
 use native.Mathlib.Omega.{arith}
 use lib.ListN.{length}
-use Rattle.records.specs.Rows.{pick, sum}
+use Rattle.records.specs.Rows.{pick}
 use Rattle.records.specs.RowLaws.{sum-cong}
 use Rattle.records.specs.Tests.{same-or-not}
 use Rattle.meaning.specs.File.{needed}
-use Rattle.meaning.specs.Store.{Store, Change, prepared, after, afterAll, inUse, freeBlocks, blocksNeeded}
+use Rattle.meaning.specs.Store.{Store, Change, after, afterAll, inUse, freeBlocks, blocksNeeded}
 use Rattle.meaning.specs.Result.{unless}
 use Rattle.meaning.specs.Tables.{Tables, storeOf, blockCount, fileCount, putAll}
 use Rattle.meaning.specs.Sound.{sound, lengthsAgree}
 use Rattle.meaning.specs.Run.{Call, Prepare, Room, Create, Open, Unlink, Mkdir, Rmdir, Link, Move, Ls, Close, Fstat, Read, Write, Seek, meaning, accepts, resultOf, changesOf, run}
-use Rattle.layout.specs.Lengths.{Lengths, lengths-agree, agree-lengths}
-use Rattle.layout.specs.Layout.{Layout, Holding, sound-layout}
+use Rattle.layout.specs.Lengths.{Lengths, agree-lengths}
+use Rattle.layout.specs.Layout.{Holding, sound-layout}
 use Rattle.layout.specs.Room.{same-blocks}
 use Rattle.layout.specs.Counting.{free-blocks, free-and-needed}
 use Rattle.layout.specs.PutPrepared.{put-prepared}
@@ -26,7 +26,7 @@ use Rattle.soundness.specs.Use.{of-used}
 use Rattle.soundness.specs.Well.{Well}
 use Rattle.soundness.specs.WellFacts.{form-free}
 use Rattle.soundness.specs.WellLaws.{of-well}
-use Rattle.keeping.specs.Sure.{Sure, Sized}
+use Rattle.keeping.specs.Sure.{Sized}
 use Rattle.keeping.specs.Prepared.{prepared-well}
 use Rattle.keeping.specs.Calls.{good, sure}
 use Rattle.keeping.specs.Kept.{tablesAfter, tablesAfterAll, freeRecords, neededInUse, SoundKept, RowsKept, PrepareSound, RoomKept, StoreRoomKept}
@@ -77,18 +77,18 @@ sound-accepted (Seek c mode n) t e = e
 
 -- ---- the tables then hold the store that the changes leave
 
-abbrev changesOn : Call → Tables → List Change
+abbrev pub changesOn : Call → Tables → List Change
 changesOn call t = changesOf (meaning call (storeOf t))
 
-record Left (call : Call) (t : Tables) : Type 0 where
-  holding : Holding (putAll t (changesOn call t)) (afterAll (storeOf t) (changesOn call t))
-  well : Well (afterAll (storeOf t) (changesOn call t))
+pub record Left (call : Call) (t : Tables) : Type 0 where
+  pub holding : Holding (putAll t (changesOn call t)) (afterAll (storeOf t) (changesOn call t))
+  pub well : Well (afterAll (storeOf t) (changesOn call t))
 
-sized : (t : Tables) → Lengths t → Sized (storeOf t)
+pub sized : (t : Tables) → Lengths t → Sized (storeOf t)
 unfolding storeOf
 sized t L = record { some-files = L .some-files; few-files = L .few-files }
 
-left-sound : (call : Call) (t : Tables) → sound t ≡ true → Left call t
+pub left-sound : (call : Call) (t : Tables) → sound t ≡ true → Left call t
 left-sound call t e =
     let L = sound-layout t e in
     let w = sound-well t e in

@@ -1,9 +1,9 @@
 -- A record of a directory is written, added or blanked: the shape stays.
-use Prim.Native.Nat.{ℕ, suc, _+_, _*_, _%_, _≤_, _<_, max}
+use Prim.Native.Nat.{ℕ, suc, _+_, _≤_, _<_, max}
 use mathlib.Core.Path.{_≡_, refl, ap, sym, _∙_}
 use mathlib.Core.Logic.{_≢_, ⊎-elim}
 use mathlib.Core.List.{List, []}
-use mathlib.Core.Bool.{Bool, true, false, true≢false}
+use mathlib.Core.Bool.{true, false, true≢false}
 use native.Mathlib.Omega.{arith}
 use lib.ListN.{length}
 use Rattle.records.specs.Rows.{every}
@@ -11,15 +11,14 @@ use Rattle.records.specs.Numbers.{one, zeros}
 use Rattle.records.specs.Tests.{same-or-not}
 use Rattle.meaning.specs.File.{longest}
 use Rattle.meaning.specs.Name.{Entry, isSyllable, same, entryIn, isWritten, blankRecord, recordCount, recordAt, isBlank, entryAt, withEntry}
-use Rattle.meaning.specs.Store.{Store, File, Channel, after, root, inUse, isDirectory}
-use Rattle.meaning.specs.NameCalls.{rewritten}
+use Rattle.meaning.specs.Store.{Store, File, after, root, inUse, isDirectory}
 use Rattle.names.specs.ByteLaws.{not-same}
 use Rattle.directories.specs.EntryLaws.{length-with, count-with, record-same, record-other, entry-same, entry-other, blank-same, blank-other}
 use Rattle.soundness.specs.Use.{directory-used, directory-kind}
-use Rattle.soundness.specs.Well.{FileForm, DirectoryFile, as-directory, TopDirectory, ChannelForm, NamingRecord, RecordForm, as-blank, as-naming}
-use Rattle.soundness.specs.WellFacts.{form-directory, blank-file}
+use Rattle.soundness.specs.Well.{FileForm, DirectoryFile, as-directory, RecordForm, as-blank, as-naming}
+use Rattle.soundness.specs.WellFacts.{form-directory}
 use Rattle.trees.specs.Rewrite.{Rewriting, withRecord, own-bytes, other-file, kind-same, depth-same, use-same, directory-same}
-use Rattle.trees.specs.Entries.{blank-name, not-empty, naming-syllable}
+use Rattle.trees.specs.Entries.{not-empty, naming-syllable}
 use Rattle.trees.specs.Naming.{blank-entry}
 use Rattle.keeping.specs.Shape.{Shape, channel-moved, record-moved}
 

@@ -1,17 +1,17 @@
 -- Who refers to a file: records by their names, channels by holding it. Where the count says none, none does; and back.
-use Prim.Native.Nat.{ℕ, zero, suc, _+_, _-_, _≤_, _<_}
+use Prim.Native.Nat.{ℕ, suc, _-_, _<_}
 use mathlib.Core.Path.{_≡_, refl, ap, sym, _∙_}
-use mathlib.Core.Logic.{_≢_, ⊎-elim}
+use mathlib.Core.Logic.{_≢_}
 use mathlib.Core.List.{List}
 use mathlib.Core.Bool.{Bool, true, false, true≢false}
 use native.Mathlib.Omega.{arith}
-use lib.Dec.{ltb, eqb}
-use borrow.Author.Tests.{eq-eqb, ne-eqb, lt-ltb, ltb-true, ltb-false}
-use Rattle.records.specs.Rows.{pick, tally, sum, howMany}
+use lib.Dec.{eqb}
+use borrow.Author.Tests.{eq-eqb, ne-eqb, lt-ltb}
+use Rattle.records.specs.Rows.{pick, tally, howMany}
 use Rattle.records.specs.RowLaws.{every-all, sum-cong, sum-constant, sum-term, howMany-none}
 use Rattle.meaning.specs.Name.{recordCount, isBlank, entryAt, namesIn, isEmpty}
 use Rattle.meaning.specs.Store.{Store, inUse, isDirectory, names, held}
-use Rattle.soundness.specs.Use.{used, directory-used}
+use Rattle.soundness.specs.Use.{directory-used}
 use Rattle.soundness.specs.Well.{RecordForm, as-blank, as-naming}
 use Rattle.soundness.specs.WellFacts.{blank-file}
 use Rattle.trees.specs.Rewrite.{givenBy}

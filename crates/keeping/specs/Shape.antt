@@ -1,16 +1,16 @@
 -- A well-formed store in two parts: the shape of files, channels and records; and the names that files need, but for one file
 -- whose name a change takes or has still to give.
-use Prim.Native.Nat.{ℕ, suc, _+_, _≤_, _<_}
-use mathlib.Core.Path.{_≡_, refl, ap, sym, _∙_}
+use Prim.Native.Nat.{ℕ, _+_, _≤_, _<_}
+use mathlib.Core.Path.{_≡_, _∙_}
 use mathlib.Core.Logic.{_≢_, _⊎_, ⊎-elim}
 use mathlib.Core.List.{List}
-use mathlib.Core.Bool.{Bool, true, false, true≢false}
+use mathlib.Core.Bool.{true, false}
 use native.Mathlib.Omega.{arith}
 use Rattle.records.specs.Tests.{same-or-not}
 use Rattle.meaning.specs.Name.{recordCount, recordAt, entryAt, isBlank, same}
 use Rattle.meaning.specs.Store.{Store, Channel, root, inUse, isDirectory, names, held}
 use Rattle.soundness.specs.Use.{used, directory-used}
-use Rattle.soundness.specs.Well.{FileForm, TopDirectory, ChannelForm, OpenChannel, NamingRecord, RecordForm, as-blank, as-naming, Well}
+use Rattle.soundness.specs.Well.{FileForm, TopDirectory, ChannelForm, RecordForm, as-blank, as-naming, Well}
 
 -- all rules of Well that count no names
 pub record Shape (s : Store) : Type 0 where

@@ -1,7 +1,7 @@
 -- What has to hold of a call's changes: the tables can take them, and the store that they leave is well formed.
 -- A call's refusals are walked one by one; what is left is to hold where it is accepted.
 use Prim.Native.Nat.{ℕ, _-_, _≤_, _<_}
-use mathlib.Core.Path.{_≡_, refl, ap, sym, _∙_}
+use mathlib.Core.Path.{_≡_, refl}
 use mathlib.Core.Logic.{_≢_}
 use mathlib.Core.List.{List, [], _∷_, _++_}
 use mathlib.Core.Bool.{Bool, true, false, not}

@@ -1,7 +1,6 @@
 -- write: an ordinary file's bytes, then the channel's position. close: the channel, then the file if nothing refers to it.
-use Prim.Native.Nat.{ℕ, _+_, _-_, _≤_, _<_, max}
-use mathlib.Core.Path.{_≡_, refl, ap, sym, _∙_}
-use mathlib.Core.Logic.{_≢_}
+use Prim.Native.Nat.{ℕ, _+_, _-_, _≤_}
+use mathlib.Core.Path.{_≡_, refl, sym, _∙_}
 use mathlib.Core.List.{List, [], _∷_}
 use mathlib.Core.Bool.{true, false}
 use native.Mathlib.Omega.{arith}
@@ -14,10 +13,9 @@ use Rattle.meaning.specs.Store.{Store, file, channel, after, noChannel, channel
 use Rattle.meaning.specs.ChannelCalls.{close, write}
 use Rattle.meaning.specs.declared.Report.the-variants.{IsDirectory}
 use Rattle.names.specs.ByteLaws.{not-false-true}
-use Rattle.soundness.specs.Use.{Used, used, directory-kind}
-use Rattle.soundness.specs.Well.{FreeChannel, ChannelForm, Well}
+use Rattle.soundness.specs.Use.{used, directory-kind}
+use Rattle.soundness.specs.Well.{ChannelForm, Well}
 use Rattle.soundness.specs.WellFacts.{open-channel, held-used}
-use Rattle.trees.specs.AfterFile.{file-changed}
 use Rattle.keeping.specs.Shape.{shape}
 use Rattle.keeping.specs.ChannelStep.{directory-there, names-there, shape-channel, counted-channel}
 use Rattle.keeping.specs.Sure.{Sure, Good, Sized, past, on-channel, if-fits, sure-then}

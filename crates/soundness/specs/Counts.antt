@@ -1,19 +1,18 @@
 -- Names counted file by file, over the directories passed so far.
 use Prim.Native.Nat.{ℕ, zero, suc, _+_, _*_, _/_, _≤_, _<_}
-use mathlib.Core.Path.{_≡_, refl, sym, ap, _∙_}
-use mathlib.Core.List.{List, []}
-use mathlib.Core.Bool.{Bool, true, false, _&&_}
-use native.Mathlib.Numerals.{add-one}
+use mathlib.Core.Path.{_≡_, refl, sym, _∙_}
+use mathlib.Core.List.{List}
+use mathlib.Core.Bool.{Bool, true, false}
 use native.Mathlib.Omega.{arith}
 use lib.ListN.{length, getD}
 use lib.Dec.{eqb}
 use Rattle.records.specs.Rows.{pick, every, howMany, sum}
 use Rattle.records.specs.RowLaws.{every-all}
 use Rattle.records.specs.LoopLaws.{sum-start, sum-step, howMany-within}
-use Rattle.records.specs.Tests.{and-left, tested}
+use Rattle.records.specs.Tests.{and-left}
 use Rattle.meaning.specs.File.{needed}
 use Rattle.meaning.specs.Name.{recordCount, entryAt, namesIn}
-use Rattle.meaning.specs.Store.{Store, inUse, isDirectory, names}
+use Rattle.meaning.specs.Store.{Store, isDirectory, names}
 use Rattle.meaning.specs.Tables.{storeOf, fileCount, lengthAt}
 use Rattle.meaning.specs.Sound.{recordSound, nameNew, oneDeeper}
 use Rattle.soundness.specs.Use.{implied, used}
@@ -22,7 +21,7 @@ use Rattle.soundness.specs.FormLaws.{record-form}
 use Rattle.soundness.specs.WellFacts.{blank-file}
 use Rattle.soundness.specs.Rules.{names-at, Counted, Countable}
 use Rattle.soundness.specs.Slots.{directoriesStore, dir-length, Starts, slot, slot-entry, Placed, within-placed}
-use Rattle.soundness.specs.DirectoryRules.{directoryRule, directoriesRule, count-there, count-names-there}
+use Rattle.soundness.specs.DirectoryRules.{directoryRule, directoriesRule, count-names-there}
 
 -- how many records of file d, if that is a directory, name file f
 unfoldable pub namesOf : Store → ℕ → ℕ → ℕ

@@ -1,20 +1,19 @@
 -- The rules of one directory, said of its records in the block table.
 use Prim.Native.Nat.{ℕ, suc, _/_, _<_}
-use mathlib.Core.Path.{_≡_, refl, sym, ap, _∙_}
+use mathlib.Core.Path.{_≡_, refl, ap}
 use mathlib.Core.Logic.{_≢_, ⊎-elim}
 use mathlib.Core.List.{List, []}
-use mathlib.Core.Bool.{Bool, true, false, not, _&&_, _||_}
+use mathlib.Core.Bool.{Bool, not, _&&_, _||_}
 use native.Mathlib.Omega.{arith}
-use lib.ListN.{length}
-use lib.Dec.{ltb, leb, eqb}
+use lib.Dec.{eqb}
 use borrow.Author.Tests.{lt-ltb, le-leb, ne-eqb}
 use Rattle.records.specs.Rows.{every, howMany}
 use Rattle.records.specs.RowLaws.{every-cong, howMany-cong}
 use Rattle.records.specs.Tests.{and-false, same-or-not}
 use Rattle.meaning.specs.File.{needed}
-use Rattle.meaning.specs.Name.{recordCount, recordAt, entryAt, isBlank, isWritten, same, namesIn}
-use Rattle.meaning.specs.Store.{Store, root, inUse, isDirectory}
-use Rattle.meaning.specs.Tables.{Tables, tables, storeOf, fileOf, fileCount, kindAt, depthAt, lengthAt}
+use Rattle.meaning.specs.Name.{recordCount, entryAt, isBlank, same, namesIn}
+use Rattle.meaning.specs.Store.{Store, inUse, isDirectory}
+use Rattle.meaning.specs.Tables.{tables, storeOf, fileOf, fileCount, kindAt, depthAt, lengthAt}
 use Rattle.meaning.specs.Sound.{recordSound, nameNew, oneDeeper}
 use Rattle.soundness.specs.Rules.{deeperThan, newAt, recordsAt, namesAt, deeperAt}
 use Rattle.soundness.specs.Seen.{filesStore, inUse-seen, isDirectory-seen, depth-seen}

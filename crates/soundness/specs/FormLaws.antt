@@ -16,7 +16,7 @@ use Rattle.meaning.specs.Store.{Store, File, Channel, root, inUse}
 use Rattle.meaning.specs.ChannelCalls.{lastPosition}
 use Rattle.meaning.specs.Sound.{asFree, asOrdinary, asDirectory, fileSound, channelSound, recordSound, nameNew}
 use Rattle.soundness.specs.Use.{three, four}
-use Rattle.soundness.specs.Well.{FreeFile, OrdinaryFile, DirectoryFile, FileForm, as-free, as-ordinary, as-directory, TopDirectory, FreeChannel, OpenChannel, ChannelForm, NamingRecord, RecordForm, as-blank, as-naming}
+use Rattle.soundness.specs.Well.{FreeFile, OrdinaryFile, DirectoryFile, FileForm, as-free, as-ordinary, as-directory, ChannelForm, RecordForm, as-blank, as-naming}
 
 -- ---- a file record
 

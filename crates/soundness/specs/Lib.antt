@@ -1,6 +1,7 @@
 pub mod Use
 pub mod Well
 pub mod FormLaws
+pub mod NamedLaws
 pub mod WellLaws
 pub mod WellFacts
 pub mod Seen

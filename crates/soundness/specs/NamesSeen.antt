@@ -1,11 +1,10 @@
 -- The rules of names as the code tests them: directories one by one, then the counts of names.
-use Prim.Native.Nat.{ℕ, zero, suc, _+_, _≤_, _<_}
+use Prim.Native.Nat.{ℕ, zero, suc, _≤_, _<_}
 use mathlib.Core.Path.{_≡_, refl, sym, ap, _∙_}
 use mathlib.Core.List.{List, []}
 use mathlib.Core.Bool.{Bool, true, false, not, _&&_, _||_}
 use native.Mathlib.Omega.{arith}
 use lib.ListN.{getD}
-use lib.Dec.{eqb}
 use Rattle.records.specs.Rows.{every}
 use Rattle.records.specs.RowLaws.{every-all, all-every, every-cong}
 use Rattle.records.specs.Tests.{both, and-both}
@@ -18,7 +17,7 @@ use Rattle.soundness.specs.Rules.{deeperThan, isNamedBy, namedBy, allNam
 use Rattle.soundness.specs.Seen.{filesStore, channelsStore, inUse-seen, isDirectory-seen, depth-seen}
 use Rattle.soundness.specs.Slots.{directoriesStore}
 use Rattle.soundness.specs.DirectoryRules.{directoryRule, directoriesRule}
-use Rattle.soundness.specs.Counts.{Counts, namesOf, names-summed}
+use Rattle.soundness.specs.Counts.{Counts, names-summed}
 
 -- two rules of every index
 every-and : (n : ℕ) (p q : ℕ → Bool) → every n (λ i. p i && q i) ≡ every n p && every n q

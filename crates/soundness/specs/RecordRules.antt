@@ -5,12 +5,12 @@ use mathlib.Core.Logic.{⊎-elim}
 use mathlib.Core.List.{List}
 use mathlib.Core.Bool.{Bool, true, false, not, _&&_}
 use native.Mathlib.Omega.{arith}
-use lib.ListN.{length, getD}
+use lib.ListN.{length}
 use lib.Seq.{ext-getD}
 use lib.Dec.{eqb}
 use borrow.Author.Tests.{eq-eqb, ne-eqb, eqb-true, eqb-false, not-true}
 use Rattle.records.specs.Rows.{every, lowest}
-use Rattle.records.specs.RowLaws.{lowest-cong, lowest-hit, lowest-misses, every-all}
+use Rattle.records.specs.RowLaws.{lowest-cong, lowest-hit, every-all}
 use Rattle.records.specs.LoopLaws.{every-start, every-step}
 use Rattle.records.specs.NumberLaws.{zeros-cong}
 use Rattle.records.specs.Numbers.{one, zeros}

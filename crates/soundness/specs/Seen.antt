@@ -1,11 +1,7 @@
 -- What a rule sees: some rules look at some of the tables alone, and give the same whatever the others hold.
-use Prim.Native.Nat.{ℕ, zero, suc, _<_}
-use mathlib.Core.Path.{_≡_, refl, ap}
+use Prim.Native.Nat.{ℕ, zero, suc}
+use mathlib.Core.Path.{_≡_, refl}
 use mathlib.Core.List.{List, []}
-use mathlib.Core.Bool.{Bool, not, _&&_}
-use lib.ListN.{length}
-use lib.Dec.{ltb, leb, eqb}
-use Rattle.records.specs.Rows.{every}
 use Rattle.records.specs.RowLaws.{every-cong, length-listOf}
 use Rattle.meaning.specs.Store.{Store, inUse, isDirectory}
 use Rattle.meaning.specs.Tables.{Tables, tables, storeOf, fileOf, channelOf, byteOf, fileCount, channelCount, owner, lengthAt, channelFileAt}

@@ -3,17 +3,16 @@
 use Prim.Native.Nat.{ℕ, suc, _+_, _*_, _/_, _%_, _≤_, _<_}
 use mathlib.Core.Path.{_≡_, refl, sym, ap, _∙_}
 use mathlib.Core.List.{List, []}
-use mathlib.Core.Bool.{true}
 use native.Mathlib.Omega.{arith}
 use lib.ListN.{length, getD}
-use Rattle.records.specs.RowLaws.{length-listOf, getD-listOf}
-use Rattle.records.specs.Numbers.{one}
+use Rattle.records.specs.RowLaws.{length-listOf}
+use Rattle.records.specs.Numbers.{zeros}
 use Rattle.meaning.specs.File.{needed, longest}
 use Rattle.meaning.specs.Name.{recordAt, entryAt, entryIn, isBlank}
 use Rattle.meaning.specs.Store.{Store}
-use Rattle.meaning.specs.Tables.{Tables, tables, storeOf, fileOf, byteOf, blockOf, blockCount, fileCount, lengthAt, fileLength}
-use Rattle.meaning.specs.Sound.{filesSound}
-use Rattle.names.specs.RecordNames.{record-at, record-same, blank-same}
+use Rattle.meaning.specs.Tables.{tables, storeOf, fileOf, byteOf, blockOf, blockCount, fileCount, lengthAt, fileLength}
+use Rattle.names.specs.RecordNames.{recordFrom, record-at}
+use Rattle.directories.specs.Places.{recordPlace, record-there, blank-there}
 
 -- the store of all tables but channel records
 abbrev pub directoriesStore : List ℕ → List ℕ → List ℕ → Store
@@ -44,28 +43,25 @@ module _ (blocks records files : List ℕ) (placed : Placed blocks records files
   dir = directoriesStore blocks records files .file (suc r) .bytes
 
   module _ (i : ℕ) (h : i < lengthAt files r / 16) where
+    place : i / 32 < needed (lengthAt files r)
+    place = omega arith
+
+    slot-place : 16 * slot starts i ≡ recordPlace records (suc r) i
+    unfolding slot recordPlace
+    slot-place = omega (arith, found .each (i / 32) place)
+
     -- record i lies in the block table
     pub slot-inside : 16 * slot starts i + 16 ≤ length blocks
     unfolding slot fileLength
-    slot-inside =
-        let place : i / 32 < needed (lengthAt files r) = omega arith in
-        let there : blockOf records (suc r) (i / 32) < blockCount records = placed .there (suc r) (i / 32) place in
-        omega (arith, found .each (i / 32) place, placed .whole)
+    slot-inside = omega (arith, found .each (i / 32) place, placed .there (suc r) (i / 32) place, placed .whole)
 
-    byte-there : (j : ℕ) → j < 16 → one dir (16 * i + j) ≡ one blocks (16 * slot starts i + j)
-    unfolding slot storeOf fileOf byteOf one
-    byte-there j l =
-        let place : i / 32 < needed (lengthAt files r) = omega arith in
-        let where-place : (16 * i + j) / 512 ≡ i / 32 = omega arith in
-        let at : 512 * getD starts (i / 32) 0 + (16 * i + j) % 512 ≡ 16 * (32 * getD starts (i / 32) 0 + i % 32) + j = omega arith in
-        getD-listOf (lengthAt files r) (byteOf (tables blocks records files []) (suc r)) (16 * i + j) 0 (omega arith)
-        ∙ rw (where-place, ← found .each (i / 32) place, at)
+    whole : 16 * i + 16 ≤ length dir
+    whole = omega (arith, dir-length blocks records files r)
 
     pub slot-record : recordAt dir i ≡ recordAt blocks (slot starts i)
     slot-record =
-        record-at dir i
-        ∙ record-same dir blocks (16 * i) (16 * slot starts i) byte-there (omega (arith, dir-length blocks records files r)) slot-inside
-        ∙ sym (record-at blocks (slot starts i))
+        record-there (tables blocks records files []) (suc r) i whole (rw (← slot-place) slot-inside)
+        ∙ sym (record-at blocks (slot starts i) ∙ ap (recordFrom blocks) slot-place)
 
     pub slot-entry : entryAt dir i ≡ entryAt blocks (slot starts i)
     unfolding entryAt
@@ -73,7 +69,7 @@ module _ (blocks records files : List ℕ) (placed : Placed blocks records files
 
     pub slot-blank : isBlank dir i ≡ isBlank blocks (slot starts i)
     unfolding isBlank
-    slot-blank = blank-same dir blocks (16 * i) (16 * slot starts i) byte-there
+    slot-blank = blank-there (tables blocks records files []) (suc r) i whole ∙ ap (λ at. zeros blocks at 16) (sym slot-place)
 
 -- the first n records of a directory lie in the block table
 pub record Within (blocks starts : List ℕ) (n : ℕ) : Type 0 where

@@ -1,8 +1,8 @@
 -- A store is sound exactly where the rules that the code tests hold.
-use Prim.Native.Nat.{ℕ, suc}
+use Prim.Native.Nat.{suc}
 use mathlib.Core.Path.{_≡_, sym, _∙_}
 use mathlib.Core.List.{List, [], _∷_}
-use mathlib.Core.Bool.{Bool, true, _&&_}
+use mathlib.Core.Bool.{Bool, _&&_}
 use Rattle.records.specs.Rows.{allOf, every}
 use Rattle.records.specs.Tests.{both, and-both, allOf-true, true-allOf}
 use Rattle.meaning.specs.Tables.{Tables, storeOf}

@@ -1,15 +1,16 @@
 -- A file in use, and a directory in use, in plain facts; both ways.
 use Prim.Native.Nat.{ℕ, zero, suc, _≤_, _<_}
 use mathlib.Core.Path.{_≡_, refl, sym, _∙_}
-use mathlib.Core.Logic.{_≢_, ⊎-elim}
+use mathlib.Core.Logic.{_≢_}
 use mathlib.Core.Bool.{Bool, true, false, not, _&&_, _||_, true≢false}
 use native.Mathlib.Omega.{arith}
-use lib.Dec.{leb, ltb, eqb}
-use borrow.Author.Tests.{ltb-true, leb-true, eqb-true, eqb-false, lt-ltb, le-leb, eq-eqb, ne-eqb, not-true}
+use lib.Dec.{eqb}
+use borrow.Author.Tests.{eqb-true, eq-eqb}
 use Rattle.records.specs.Rows.{every}
 use Rattle.records.specs.RowLaws.{every-all, all-every}
-use Rattle.records.specs.Tests.{and-left, and-right, and-both, tested}
+use Rattle.records.specs.Tests.{and-left, and-right, and-both}
 use Rattle.meaning.specs.Store.{Store, inUse, isDirectory}
+use Rattle.layout.specs.Layout.{in-use-facts, facts-in-use}
 
 -- ---- rows of tests
 
@@ -61,18 +62,10 @@ none-unused s = refl
 
 module _ (s : Store) (f : ℕ) where
   pub used : inUse s f ≡ true → Used s f
-  unfolding inUse
-  used e =
-      let (some, within, kind) = three (ltb 0 f) (leb f (s .fileCount)) (not (eqb (s .file f .kind) 0)) e in
-      record {
-        some = ltb-true 0 f some;
-        within = leb-true f (s .fileCount) within;
-        kind = eqb-false (s .file f .kind) 0 (not-true (eqb (s .file f .kind) 0) kind);
-      }
+  used e = let (some, within, kind) = in-use-facts s f e in record { some = some; within = within; kind = kind }
 
   pub of-used : Used s f → inUse s f ≡ true
-  unfolding inUse
-  of-used u = rw (lt-ltb 0 f (u .some), le-leb f (s .fileCount) (u .within), ne-eqb (s .file f .kind) 0 (u .kind))
+  of-used u = facts-in-use s f (u .some) (u .within) (u .kind)
 
   -- ---- a directory in use
 

@@ -1,20 +1,21 @@
 -- A store is well formed exactly where the plain facts hold.
-use Prim.Native.Nat.{ℕ, zero, suc, _+_, _≤_, _<_}
-use mathlib.Core.Path.{_≡_, refl, sym, ap, _∙_}
-use mathlib.Core.Logic.{_≢_, _⊎_, inl, inr, ⊎-elim}
+use Prim.Native.Nat.{ℕ, suc, _+_, _≤_, _<_}
+use mathlib.Core.Path.{_≡_, refl, sym, _∙_}
+use mathlib.Core.Logic.{_≢_, ⊎-elim}
 use mathlib.Core.List.{List, [], _∷_}
 use mathlib.Core.Bool.{Bool, true, false, not, _&&_, _||_, true≢false}
 use native.Mathlib.Omega.{arith}
-use lib.Dec.{ltb, eqb}
-use borrow.Author.Tests.{ltb-true, eqb-true, eqb-false, lt-ltb, eq-eqb, ne-eqb, not-true}
-use Rattle.records.specs.Rows.{allOf, every}
+use lib.Dec.{eqb}
+use borrow.Author.Tests.{eqb-true, eq-eqb, ne-eqb}
+use Rattle.records.specs.Rows.{every}
 use Rattle.records.specs.RowLaws.{every-all, all-every}
-use Rattle.records.specs.Tests.{tested, both, and-left, and-right, and-both, either, or-left, or-right, same-or-not, allOf-true, true-allOf}
-use Rattle.meaning.specs.Name.{recordCount, entryAt, isBlank, same}
-use Rattle.meaning.specs.Store.{Store, File, root, inUse, isDirectory, names, held}
+use Rattle.records.specs.Tests.{both, and-both, same-or-not, allOf-true, true-allOf}
+use Rattle.meaning.specs.Name.{recordCount, entryAt}
+use Rattle.meaning.specs.Store.{Store, root, inUse, isDirectory}
 use Rattle.meaning.specs.Sound.{fileSound, filesSound, channelSound, channelsSound, recordSound, nameNew, directoriesSound, oneDeeper, isNamed, namesSound, wellFormed}
-use Rattle.soundness.specs.Use.{implied, of-implied, every-file, file-every, Used, used, of-used, directory-used, directory-kind, of-directory, not-directory}
-use Rattle.soundness.specs.Well.{FileForm, TopDirectory, ChannelForm, RecordForm, Well}
+use Rattle.soundness.specs.Use.{implied, of-implied, every-file, file-every, used, of-used, directory-used, directory-kind, of-directory}
+use Rattle.soundness.specs.Well.{FileForm, TopDirectory, ChannelForm, Well}
+use Rattle.soundness.specs.NamedLaws.{Named, is-named, of-is-named}
 use Rattle.soundness.specs.FormLaws.{file-sound, of-file-sound, channel-form, of-channel-form, record-form, of-record-form, name-new, of-name-new}
 
 module _ (s : Store) where
@@ -87,58 +88,6 @@ module _ (s : Store) where
       let f = entryAt (bytesOf d) i .file in
       of-implied (isDirectory s f) (eqb (s .file f .depth) (s .file d .depth + 1)) (λ is. eq-eqb (s .file f .depth) (s .file d .depth + 1) (h is))
 
-  -- a file in use has the names it needs
-  abbrev Named : ℕ → Type 0
-  Named f = inUse s f ≡ true → f ≢ root → (isDirectory s f ≡ true → names s f ≡ 1) × (isDirectory s f ≡ false → (0 < names s f) ⊎ (held s f ≡ true))
-
-  abbrev one-name : ℕ → Bool
-  one-name f = isDirectory s f && eqb (names s f) 1
-
-  abbrev some-hold : ℕ → Bool
-  some-hold f = not (isDirectory s f) && (ltb 0 (names s f) || held s f)
-
-  is-named : (f : ℕ) → isNamed s f ≡ true → Named f
-  unfolding isNamed
-  is-named f e in-use other = go (isDirectory s f) refl
-    where
-      rest : one-name f || some-hold f ≡ true
-      rest = rw (in-use, ne-eqb f root other) at e
-
-      go : (t : Bool) → isDirectory s f ≡ t → (isDirectory s f ≡ true → names s f ≡ 1) × (isDirectory s f ≡ false → (0 < names s f) ⊎ (held s f ≡ true))
-      go true is =
-          let one : eqb (names s f) 1 || false ≡ true = rw is at rest in (
-            (λ is. ⊎-elim (λ h. eqb-true (names s f) 1 h) (λ h. absurd (true≢false (sym h))) (either (eqb (names s f) 1) false one)),
-            λ isnt. absurd (true≢false (sym is ∙ isnt)),
-          )
-      go false isnt =
-          let some : ltb 0 (names s f) || held s f ≡ true = rw isnt at rest in (
-            (λ is. absurd (true≢false (sym is ∙ isnt))),
-            λ isnt. ⊎-elim (λ h. inl (ltb-true 0 (names s f) h)) (λ h. inr h) (either (ltb 0 (names s f)) (held s f) some),
-          )
-
-  of-is-named : (f : ℕ) → Named f → isNamed s f ≡ true
-  unfolding isNamed
-  of-is-named f h =
-      ⊎-elim
-      (λ (u : inUse s f ≡ false). rw u)
-      (λ (u : inUse s f ≡ true). ⊎-elim
-      (λ (r : f ≡ root). rw (u, eq-eqb f root r))
-      (λ (n : f ≢ root). rw (u, ne-eqb f root n) (go (isDirectory s f) refl (h u n)))
-      (same-or-not f root))
-      (swapped (tested (inUse s f)))
-    where
-      swapped : {A B : Type 0} → A ⊎ B → B ⊎ A
-      swapped d = ⊎-elim (λ a. inr a) (λ b. inl b) d
-
-      go : (t : Bool) → isDirectory s f ≡ t → (isDirectory s f ≡ true → names s f ≡ 1) × (isDirectory s f ≡ false → (0 < names s f) ⊎ (held s f ≡ true))
-          → one-name f || some-hold f ≡ true
-      go true is k = rw (is, k .0 is)
-      go false isnt k =
-          rw isnt (⊎-elim
-          (λ (l : 0 < names s f). rw (lt-ltb 0 (names s f) l))
-          (λ (l : held s f ≡ true). or-right (ltb 0 (names s f)) (held s f) l)
-          (k .1 isnt))
-
   abbrev deeper-rule : ℕ → Bool
   deeper-rule d = every (recordCount (bytesOf d)) (λ i. oneDeeper s d i)
 
@@ -153,17 +102,17 @@ module _ (s : Store) where
         let all = implied (isDirectory s d) (deeper-rule d) (every-file (s .fileCount) (λ d. not (isDirectory s d) || deeper-rule d) (parts .0) d (u .some) (u .within)) is in
         one-deeper d i (every-all (recordCount (bytesOf d)) (λ i. oneDeeper s d i) all i h)
 
-    each-named : (f : ℕ) → Named f
-    each-named f u = let w = used s f u in is-named f (every-file (s .fileCount) (λ f. isNamed s f) (parts .1) f (w .some) (w .within)) u
+    each-named : (f : ℕ) → Named s f
+    each-named f u = let w = used s f u in is-named s f (every-file (s .fileCount) (λ f. isNamed s f) (parts .1) f (w .some) (w .within)) u
 
-  of-names : ((d i : ℕ) → isDirectory s d ≡ true → i < recordCount (bytesOf d) → Deeper d i) → ((f : ℕ) → Named f) → namesSound s ≡ true
+  of-names : ((d i : ℕ) → isDirectory s d ≡ true → i < recordCount (bytesOf d) → Deeper d i) → ((f : ℕ) → Named s f) → namesSound s ≡ true
   unfolding namesSound
   of-names deep named =
       and-both (every (s .fileCount) (λ r. not (isDirectory s (suc r)) || deeper-rule (suc r))) (every (s .fileCount) (λ i. isNamed s (suc i)))
       (file-every (s .fileCount) (λ d. not (isDirectory s d) || deeper-rule d)
       (λ d some within. of-implied (isDirectory s d) (deeper-rule d)
       (λ is. all-every (recordCount (bytesOf d)) (λ i. oneDeeper s d i) (λ i l. of-one-deeper d i (deep d i is l)))))
-      (file-every (s .fileCount) (λ f. isNamed s f) (λ f some within. of-is-named f (named f)))
+      (file-every (s .fileCount) (λ f. isNamed s f) (λ f some within. of-is-named s f (named f)))
 
   -- ---- all of them
 

@@ -1,15 +1,15 @@
 -- What a statement about an accepted call says, and how it is proved.
 use Prim.Native.Nat.{ℕ, _≤_, _<_}
-use mathlib.Core.Path.{_≡_, refl, subst, sym}
+use mathlib.Core.Path.{_≡_, refl}
 use mathlib.Core.List.{List, _++_}
 use mathlib.Core.Bool.{Bool, true, false, _||_, true≢false}
-use mathlib.Core.Option.{Option, none, some}
+use mathlib.Core.Option.{Option, some}
 use Rattle.meaning.specs.Store.{Store, Change, afterAll}
 use Rattle.meaning.specs.Result.{Result, refused, done, unless, withSyllables}
 use Rattle.meaning.specs.NameCalls.{withChanges, andThen}
 use Rattle.meaning.specs.declared.Report.{Report}
 use Rattle.soundness.specs.Well.{Well}
-use Rattle.keeping.specs.Sure.{Sure, Good, Sized}
+use Rattle.keeping.specs.Sure.{Sure, Good, Sized, past-cause}
 
 -- a store that calls take: well formed, with 1 to 64 files
 pub record Ready (s : Store) : Type 0 where
@@ -30,11 +30,13 @@ module _ (P : List ℕ → List ℕ → List Change → Type 0) where
   unfolding Accepted
   accepted numbers bytes changes p = p
 
+  refusals : (why : Report) → Accepted (refused why) P
+  unfolding Accepted
+  refusals why = tt
+
   -- past a refusal
   pub past : (t : Bool) (why : Report) (r : Result) → (t ≡ false → Accepted r P) → Accepted (unless t why r) P
-  unfolding unless Accepted
-  past true why r h = tt
-  past false why r h = h refl
+  past = past-cause (λ r. Accepted r P) refusals
 
   -- past BadName
   pub spelled : (name : List (List ℕ)) (bytes : Option (List (List ℕ))) (r : List (List ℕ) → Result) → bytes ≡ some name
@@ -48,10 +50,6 @@ pub accepted-map : (P Q : List ℕ → List ℕ → List Change → Type 0) (r :
 unfolding Accepted
 accepted-map P Q (refused why) f h = tt
 accepted-map P Q (done numbers bytes changes) f h = f numbers bytes changes h
-
-pub when-done : (P : List ℕ → List ℕ → List Change → Type 0) (r : Result) (numbers bytes : List ℕ) (changes : List Change) → r ≡ done numbers bytes changes → Accepted r P → P numbers bytes changes
-unfolding Accepted
-when-done P r numbers bytes changes e h = rw e at h
 
 -- one call, then another on the store that it leaves
 pub accepted-then : (s : Store) (P Q : List ℕ → List ℕ → List Change → Type 0) (r : Result) (next : Store → Result) → Good s r → Accepted r Q

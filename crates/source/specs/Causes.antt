@@ -1,12 +1,11 @@
 -- The causes of refusals in the source's terms.
-use Prim.Native.Nat.{ℕ, _+_, _≤_, _<_}
-use mathlib.Core.Path.{_≡_, refl, sym, ap, _∙_}
-use mathlib.Core.Logic.{_≢_, _↔_, ⊎-elim}
-use mathlib.Core.Bool.{Bool, true, false, not, _&&_, true≢false}
-use mathlib.Core.Option.{Option, none, some, Option·none-ne-some}
+use Prim.Native.Nat.{ℕ, _≤_, _<_}
+use mathlib.Core.Path.{_≡_, sym, _∙_}
+use mathlib.Core.Logic.{_↔_, ⊎-elim}
+use mathlib.Core.Bool.{Bool, true, false, not, true≢false}
 use native.Mathlib.Omega.{arith}
 use lib.Dec.{ltb, eqb}
-use borrow.Author.Tests.{eq-eqb, ne-eqb, eqb-false, lt-ltb, le-ltb, ltb-false, not-true, not-false}
+use borrow.Author.Tests.{eq-eqb, ne-eqb, lt-ltb, le-ltb, ltb-false, not-true}
 use Rattle.records.specs.Rows.{lowest}
 use Rattle.records.specs.RowLaws.{lowest-within, lowest-hit, lowest-misses}
 use Rattle.records.specs.Tests.{both, and-both, and-false, lt-or-ge}
@@ -35,12 +34,13 @@ module _ (s : Store) where
 
   pub name-nowhere : (name : NAME) → (nowhere s name ≡ true) ↔ Nowhere (view s) name
   unfolding nowhere
-  name-nowhere name =
-      (λ e.
-      let (gone, none-there) = both (missing s name) (not (isDirectory s (named s (front name)))) e in
-      (name-missing name .0 gone, not-true (isDirectory s (named s (front name))) none-there),
-      λ (gone, none-there).
-      and-both (missing s name) (not (isDirectory s (named s (front name)))) (name-missing name .1 gone) (rw none-there))
+  name-nowhere name = (
+    λ e.
+        let (gone, none-there) = both (missing s name) (not (isDirectory s (named s (front name)))) e in
+        (name-missing name .0 gone, not-true (isDirectory s (named s (front name))) none-there),
+    λ (gone, none-there).
+        and-both (missing s name) (not (isDirectory s (named s (front name)))) (name-missing name .1 gone) (rw none-there),
+  )
 
   pub name-somewhere : (name : NAME) → (nowhere s name ≡ false) ↔ (Nowhere (view s) name → ⊥)
   name-somewhere name =

@@ -1,6 +1,6 @@
 -- Each accepted call on a channel is its schema of the source, with 01's departures: freeing where the source destroys, and the
 -- further answers of fstat.
-use Prim.Native.Nat.{ℕ, _≤_}
+use Prim.Native.Nat.{ℕ, _≤_, _<_}
 use mathlib.Core.Path.{_≡_}
 use mathlib.Core.List.{List, [], _∷_}
 use mathlib.Core.Option.{some}
@@ -45,8 +45,8 @@ CloseHolds =
     (s : Store) → Ready s → (c : ℕ) → Accepted (close c s) λ numbers none changes.
     closing c (view s) (view (afterAll s changes)) × (numbers ≡ [])
 
--- open: the channel
+-- open: the channel, one of the store's
 abbrev pub OpenHolds : Type 0
 OpenHolds =
     (s : Store) → Ready s → (bytes : List ℕ) (name : List (List ℕ)) → syllables bytes ≡ some name → Accepted (open′ bytes s) λ numbers none changes.
-    (c : ℕ) × openFS name c (view s) (view (afterAll s changes)) × (numbers ≡ c ∷ [])
+    (c : ℕ) × openFS name c (view s) (view (afterAll s changes)) × (numbers ≡ c ∷ []) × (c < s .channelCount)

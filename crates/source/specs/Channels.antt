@@ -16,10 +16,10 @@ pub record CHAN : Type 0 where
 pub record ΔCHAN (chan chan′ : CHAN) : Type 0 where
   pub fid : chan′ .fid ≡ chan .fid
 
-pub record readCHAN (fstore fstore′ : FSTORE) (chan chan′ : CHAN) (file file′ : FILE) (size : ℕ) (bytes : List ℕ) : Type 0 where
-  pub reads : readSS fstore fstore′ (chan .fid) file file′ (chan .posn) size bytes
+pub record readCHAN (fstore fstore′ : FSTORE) (chan chan′ : CHAN) (file file′ : FILE) (size : ℕ) (out : List ℕ) : Type 0 where
+  pub reads : readSS fstore fstore′ (chan .fid) file file′ (chan .posn) size out
   pub channel : ΔCHAN chan chan′
-  pub posn : chan′ .posn ≡ chan .posn + length bytes
+  pub posn : chan′ .posn ≡ chan .posn + length out
 
 pub record writeCHAN (fstore fstore′ : FSTORE) (chan chan′ : CHAN) (file file′ : FILE) (bytes : List ℕ) : Type 0 where
   pub writes : writeSS fstore fstore′ (chan .fid) file file′ (chan .posn) bytes
@@ -65,13 +65,13 @@ pub record ΦAS (fstore fstore′ : FSTORE) (cstore cstore′ : CSTORE) (cid : C
   pub others : cstore′ ≡ cstore ⊕ the cid ⟼ chan′
 
 -- what the source hides is a field here
-pub record readAS (fstore fstore′ : FSTORE) (cstore cstore′ : CSTORE) (cid : CID) (size : ℕ) (bytes : List ℕ) : Type 0 where
+pub record readAS (fstore fstore′ : FSTORE) (cstore cstore′ : CSTORE) (cid : CID) (size : ℕ) (out : List ℕ) : Type 0 where
   pub chan : CHAN
   pub chan′ : CHAN
   pub file : FILE
   pub file′ : FILE
   pub frame : ΦAS fstore fstore′ cstore cstore′ cid chan chan′
-  pub reads : readCHAN fstore fstore′ chan chan′ file file′ size bytes
+  pub reads : readCHAN fstore fstore′ chan chan′ file file′ size out
 
 pub record writeAS (fstore fstore′ : FSTORE) (cstore cstore′ : CSTORE) (cid : CID) (bytes : List ℕ) : Type 0 where
   pub chan : CHAN

@@ -1,12 +1,12 @@
 -- ls is its schema.
-use Prim.Native.Nat.{ℕ, _+_, _-_, _*_, _≤_, _<_}
+use Prim.Native.Nat.{ℕ, _-_, _*_, _<_}
 use mathlib.Core.Path.{_≡_, refl, ap, sym, _∙_}
-use mathlib.Core.Logic.{_≢_, _↔_, ⊎-elim}
+use mathlib.Core.Logic.{_≢_}
 use mathlib.Core.List.{List, [], _∷_, _++_}
-use mathlib.Core.Bool.{Bool, true, false}
-use mathlib.Core.Option.{Option, some}
+use mathlib.Core.Bool.{true, false}
+use mathlib.Core.Option.{some}
 use native.Mathlib.Omega.{arith}
-use lib.ListN.{length, take, getD, length-append}
+use lib.ListN.{length, length-append}
 use lib.Seq.{take-at, getD-at}
 use borrow.Author.Tests.{not-false}
 use Rattle.names.specs.ByteLaws.{not-false-true}
@@ -18,14 +18,14 @@ use Rattle.soundness.specs.WellFacts.{directory-length, blank-file, named-used}
 use Rattle.lookup.specs.Walk.{named-more}
 use Rattle.trees.specs.Lookups.{within-is}
 use Rattle.source.specs.Naming.{NAME, SYL, Content}
-use Rattle.source.specs.Filing.{FS, lsFS}
+use Rattle.source.specs.Filing.{lsFS}
 use Rattle.source.specs.View.{view, Listed}
 use Rattle.source.specs.ViewLaws.{numbered-some, numbered-not, more-syllables, no-more}
 use Rattle.source.specs.Invariants.{filing-system}
-use Rattle.source.specs.NamedBy.{Names, record-of}
-use Rattle.source.specs.Tree.{Tree, found-by, well-tree}
+use Rattle.source.specs.NamedBy.{record-of}
+use Rattle.source.specs.Tree.{found-by, well-tree}
 use Rattle.source.specs.Listing.{length-listing, row-record, record-row}
-use Rattle.source.specs.Accepted.{Ready, Accepted, accepted, past, spelled}
+use Rattle.source.specs.Accepted.{Ready, accepted, past, spelled}
 use Rattle.source.specs.NameStatements.{LsHolds}
 
 -- ---- one more syllable

@@ -1,42 +1,41 @@
--- create is its schema: for a name that stands for a file, and for a new name.
-use Prim.Native.Nat.{ℕ, _+_, _≤_, _<_}
+-- create of a new name is its schema; and so is create.
+use Prim.Native.Nat.{ℕ, _<_}
 use mathlib.Core.Path.{_≡_, refl, ap, sym, _∙_}
 use mathlib.Core.Logic.{_≢_, ⊎-elim}
-use mathlib.Core.List.{List, [], _∷_}
-use mathlib.Core.Bool.{Bool, true, false, true≢false}
-use mathlib.Core.Option.{Option, none, some, Option·none-ne-some}
+use mathlib.Core.List.{[]}
+use mathlib.Core.Bool.{true, false, true≢false}
+use mathlib.Core.Option.{Option, some, Option·none-ne-some}
 use native.Mathlib.Omega.{arith}
-use lib.Dec.{eqb}
 use borrow.Author.Tests.{eq-eqb}
 use lib.ListN.{length}
 use Rattle.records.specs.Tests.{tested}
-use Rattle.meaning.specs.Name.{isSyllable, syllables}
-use Rattle.meaning.specs.Store.{Store, Channel, file, channel, after, afterAll, channelTo, ordinary, inUse, isDirectory, freeFile, freeChannel, named, front, last}
-use Rattle.meaning.specs.Result.{missing, nowhere, allOpen, ifFits}
+use Rattle.meaning.specs.Store.{Store, Channel, file, channel, after, afterAll, channelTo, ordinary, inUse, isDirectory, freeFile, freeChannel, named, front}
+use Rattle.meaning.specs.Result.{missing, allOpen, ifFits}
 use Rattle.meaning.specs.NameCalls.{parent, create, ifNamingFits}
 use Rattle.soundness.specs.Use.{used, directory-kind, not-so}
-use Rattle.trees.specs.Standing.{Place, missing-some, missing-none, last-spelled}
+use Rattle.trees.specs.Standing.{Place, missing-none, last-spelled}
 use Rattle.trees.specs.Naming.{withName}
 use Rattle.keeping.specs.NewFiles.{FreeNumber, free-number}
-use Rattle.source.specs.Sets.{_⇸_, _∈dom_, above, _⊕_, _⟼_, the, theName}
+use Rattle.source.specs.Sets.{_∈dom_, above, _⊕_, _⟼_, the}
 use Rattle.source.specs.Files.{FILE, FSTORE}
 use Rattle.source.specs.Channels.{CHAN, CSTORE}
 use Rattle.source.specs.Naming.{NAME}
-use Rattle.source.specs.Filing.{State, Used, by-name, by-channel, FS, ΔFS, ΞNS, createFS0, direncode}
+use Rattle.source.specs.Filing.{State, by-channel, FS, ΞNS, createFS0, direncode}
 use Rattle.source.specs.Departures.{createFS}
 use Rattle.source.specs.View.{chanOf, view, dirformat, RootFid}
-use Rattle.source.specs.ViewLaws.{numbered-some, numbered-none, file-there, file-used, renamed}
-use Rattle.source.specs.Invariants.{filing-system, name-used, directories-stored}
+use Rattle.source.specs.ViewLaws.{numbered-none, file-used}
+use Rattle.source.specs.Invariants.{filing-system}
 use Rattle.source.specs.StateLaws.{value, defined, over-value, over-defined, over-wider, over-here}
 use Rattle.source.specs.StepLaws.{channel-files, channel-names, channel-put, file-channels, file-names, file-put}
-use Rattle.source.specs.Moves.{unchanged, Filed, put-names, put-channel, put-change}
+use Rattle.source.specs.Moves.{unchanged}
 use Rattle.source.specs.OpenClose.{free-below, free-new}
 use Rattle.source.specs.NameSteps.{Rewritten, given-names, given-facts}
 use Rattle.source.specs.Encoding.{naming-state, naming-filing, encoded}
-use Rattle.source.specs.Accepted.{Ready, Accepted, accepted, past, spelled}
-use Rattle.source.specs.NameStatements.{SameDirectories, CreateHolds}
+use Rattle.source.specs.Accepted.{Ready, accepted, past, spelled}
+use Rattle.source.specs.NameStatements.{CreateHolds}
 use Rattle.source.specs.Unlinking.{plain-name}
 use Rattle.source.specs.Linking.{place-of, place-directory, place-front}
+use Rattle.source.specs.Emptying.{create-old, create-old-directories}
 
 module _ (s : Store) (ready : Ready s) (name : NAME) (plain : isDirectory s (named s name) ≡ false) (free : allOpen s ≡ false) where
   abbrev c : ℕ
@@ -44,86 +43,6 @@ module _ (s : Store) (ready : Ready s) (name : NAME) (plain : isDirectory s (nam
 
   fs : FS (view s)
   fs = filing-system s (ready .well) (ready .some-file)
-
-  -- ---- the name stands for a file, which is emptied
-
-  module _ (there : missing s name ≡ false) where
-    abbrev f : ℕ
-    f = named s name
-
-    abbrev t : Store
-    t = after s (file f (ordinary []))
-
-    abbrev y : Channel
-    y = channelTo f 0
-
-    abbrev t′ : Store
-    t′ = after t (channel c y)
-
-    in-use : inUse s f ≡ true
-    in-use = name-used s (ready .well) (ready .some-file) name (missing-some s name there)
-
-    is-named : view s .nstore name ≡ some f
-    is-named = numbered-some f (missing-some s name there)
-
-    put : view t .fstore ≡ view s .fstore ⊕ the f ⟼ []
-    put = let u = used s f in-use in file-put s f (ordinary []) (u .some) (u .within) (λ (e : 1 ≡ 0). absurd (omega arith))
-
-    count : t .channelCount ≡ s .channelCount
-    unfolding after
-    count = refl
-
-    kept : (g : ℕ) → g ∈dom view s .fstore → g ∈dom view t .fstore
-    kept g h = defined put g (over-defined (view s .fstore) (the f) [] g h)
-
-    emptied : Filed s t
-    emptied =
-        record {
-          filing = fs;
-          count = count;
-          channels = file-channels s f (ordinary []);
-          names = file-names s f (ordinary []) plain (λ (e : 1 ≡ 2). absurd (omega arith));
-          kept = kept;
-        }
-
-    exists : f ∈dom view t .fstore
-    exists = kept f (s .file f .bytes, file-there s f in-use)
-
-    same-names : ΞNS (view s) (view t′)
-    same-names = put-names s t emptied c y (free-below s free) (missing-some s name there) exists
-
-    change : ΔFS (view s) (view t′)
-    change = put-change s t emptied c y (free-below s free) (missing-some s name there) exists
-
-    create-old : createFS name c (view s) (view t′)
-    create-old =
-        (view t′,
-        record {
-          change = change;
-          fid = f;
-          chan = chanOf y;
-          file = record { creates = channel-files t c y ∙ put };
-          channel =
-              record {
-                new = free-new s free;
-                start = refl;
-                opens = put-channel s t emptied c y (free-below s free) (missing-some s name there) exists;
-              };
-          names = record { creates = same-names .names ∙ renamed (view s .nstore) (view s .nstore) name (λ x n. refl) f is-named };
-          refers = refl;
-          existing = λ _. is-named;
-          new = λ gone. absurd (Option·none-ne-some f (sym gone ∙ is-named));
-        },
-        record {
-          change = record { before = change .after; after = change .after };
-          channels = refl;
-          names = record { names = refl; directories = refl };
-          stored = directories-stored t′ (λ m g e. change .after .used g (by-name m e));
-          others = λ g not-one. refl;
-        })
-
-    create-old-directories : SameDirectories (view s) (view t′)
-    create-old-directories = same-names .directories
 
   -- ---- a new name
 
@@ -246,7 +165,7 @@ create-holds s ready bytes name e =
     past _ _ _ _ λ room.
     let p = place-of s ready name (last-spelled bytes name e (plain-name s ready name plain)) here plain in
     let number = free-number s numbers in
-    accepted _ _ _ _ (freeChannel s, create-new s ready name plain free gone p (freeFile s) number, refl, last-names s ready name plain free gone p (freeFile s) number .directories)))
+    accepted _ _ _ _ (freeChannel s, create-new s ready name plain free gone p (freeFile s) number, refl, free-below s free, last-names s ready name plain free gone p (freeFile s) number .directories)))
     (λ (there : missing s name ≡ false). rw there (
-    accepted _ _ _ _ (freeChannel s, create-old s ready name plain free there, refl, create-old-directories s ready name plain free there)))
+    accepted _ _ _ _ (freeChannel s, create-old s ready name plain free there, refl, free-below s free, create-old-directories s ready name plain free there)))
     (tested (missing s name)))

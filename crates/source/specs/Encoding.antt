@@ -1,18 +1,18 @@
 -- A changed name store, and the directories' files that hold it: the states between createFS0, linkFS0 or unlinkFS0 and direncode.
 use Prim.Native.Nat.{ℕ, _-_, _<_}
 use mathlib.Core.Path.{_≡_, refl, ap, sym, _∙_}
-use mathlib.Core.Logic.{_≢_, _⊎_, ⊎-elim}
-use mathlib.Core.List.{List, []}
-use mathlib.Core.Bool.{Bool, true, false, true≢false}
-use mathlib.Core.Option.{Option, none, some}
+use mathlib.Core.Logic.{_≢_, ⊎-elim}
+use mathlib.Core.List.{[]}
+use mathlib.Core.Bool.{Bool, true, false}
+use mathlib.Core.Option.{some}
 use native.Mathlib.Omega.{arith}
-use lib.ListN.{length, take, length-take}
+use lib.ListN.{length, length-take}
 use Rattle.meaning.specs.Store.{Store, front}
 use Rattle.source.specs.Sets.{_∈dom_, _⊕_, _⩤_, _⟼_, sameName, theName}
 use Rattle.source.specs.Files.{FSTORE}
 use Rattle.source.specs.Channels.{CHAN, CSTORE}
 use Rattle.source.specs.Naming.{NAME}
-use Rattle.source.specs.Filing.{State, Used, by-name, by-channel, FS, ΔFS, ΞNS, direncode}
+use Rattle.source.specs.Filing.{State, Used, by-name, by-channel, FS, ΞNS, direncode}
 use Rattle.source.specs.View.{view, dirformat, RootFid}
 use Rattle.source.specs.ViewLaws.{name-same}
 use Rattle.source.specs.Invariants.{directories-stored}

@@ -1,24 +1,19 @@
 -- The source's errors are reported exactly where they hold.
 use Prim.Native.Nat.{ℕ}
-use mathlib.Core.Path.{_≡_, refl, sym, ap, _∙_}
-use mathlib.Core.Logic.{_≢_, _⊎_, inl, inr, _↔_, Iff·trans, ⊎-elim}
-use mathlib.Core.List.{List, [], _∷_}
-use mathlib.Core.Bool.{Bool, true, false, not}
-use mathlib.Core.Option.{Option, none, some}
-use Rattle.meaning.specs.Name.{syllables}
+use mathlib.Core.Path.{_≡_, refl}
+use mathlib.Core.Logic.{_≢_, _↔_, Iff·trans}
+use mathlib.Core.List.{List}
+use mathlib.Core.Bool.{not}
 use Rattle.meaning.specs.Store.{Store, Change, afterAll, isOpen}
-use Rattle.meaning.specs.Result.{Result, refused, done, unless, onChannel, withSyllables, missing}
+use Rattle.meaning.specs.Result.{Result, refused, done, onChannel}
 use Rattle.meaning.specs.ChannelCalls.{close, read, write, seek, fstat}
-use Rattle.meaning.specs.NameCalls.{create, open′, link, unlink, move, ls}
-use Rattle.meaning.specs.Run.{Call, meaning, bytesOf, changesOf, numberOf}
-use Rattle.meaning.specs.declared.Report.{Report}
-use Rattle.meaning.specs.declared.Report.the-variants.{Ok, NoSuchCid, NoSuchName, NoFreeCids, IsDirectory, NotDirectory, NoFreeFids, NoRoom, TooBig, BadSeek, OutShort}
-use Rattle.source.specs.Sets.{_∈dom_, _∉dom_}
-use Rattle.source.specs.Naming.{NAME}
+use Rattle.meaning.specs.Run.{meaning, changesOf, numberOf}
+use Rattle.meaning.specs.declared.Report.the-variants.{Ok, NoSuchCid, IsDirectory, NoRoom, TooBig, BadSeek}
+use Rattle.source.specs.Sets.{_∉dom_}
 use Rattle.source.specs.View.{view}
-use Rattle.source.specs.ErrorStatements.{reportOf, leftBy, UnalteredHolds, CidErrHolds, CidErrs, NameErrHolds, NameErrs, ChanErrs}
-use Rattle.source.specs.Reports.{other-report, Never, never-done, never-unless, never-fits, reported-first, reported-later}
-use Rattle.source.specs.Causes.{not-open, name-missing, name-there, name-nowhere, name-somewhere, none-free}
+use Rattle.source.specs.ErrorStatements.{reportOf, leftBy, UnalteredHolds, CidErrs}
+use Rattle.source.specs.Reports.{other-report, Never, never-done, never-unless, never-fits, reported-first}
+use Rattle.source.specs.Causes.{not-open}
 
 -- ---- a refusal changes nothing
 

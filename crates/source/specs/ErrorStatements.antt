@@ -13,8 +13,9 @@ use Rattle.meaning.specs.ChannelCalls.{close, read, write, seek, fstat}
 use Rattle.meaning.specs.NameCalls.{create, open′, link, unlink, move, ls}
 use Rattle.meaning.specs.Run.{Call, meaning, bytesOf, changesOf}
 use Rattle.meaning.specs.declared.Report.{Report}
-use Rattle.meaning.specs.declared.Report.the-variants.{Ok, NoSuchCid, NoSuchName, NoFreeCids}
+use Rattle.meaning.specs.declared.Report.the-variants.{Ok, NoSuchCid, NoSuchName, NoFreeCids, IsDirectory}
 use Rattle.source.specs.Sets.{_∈dom_, _∉dom_}
+use Rattle.source.specs.Channels.{CHAN}
 use Rattle.source.specs.Naming.{NAME}
 use Rattle.source.specs.Filing.{State, readFS, openFS, CidErr, NameErr, ChanErr}
 use Rattle.source.specs.View.{view}
@@ -84,6 +85,39 @@ pub record ChanErrs : Type 0 where
       → (reportOf (open′ bytes s) ≡ NoFreeCids) ↔ ((name ∈dom view s .nstore) × NoneFree s)
   pub of-create : (s : Store) (bytes : List ℕ) (name : NAME) → syllables bytes ≡ some name
       → (reportOf (create bytes s) ≡ NoFreeCids) ↔ ((Nowhere (view s) name → ⊥) × (view s .dnames name ≡ false) × NoneFree s)
+
+-- ---- IsDirectory, a departure: create, write, link, unlink and move refuse directories
+
+-- a directory's name stands for the file
+pub record NamesDirectory (x : State) (fid : ℕ) : Type 0 where
+  pub name : NAME
+  pub directory : x .dnames name ≡ true
+  pub named : x .nstore name ≡ some fid
+
+-- the channel is there, and refers to a directory
+pub record HoldsDirectory (x : State) (c : ℕ) : Type 0 where
+  pub chan : CHAN
+  pub is : x .cstore c ≡ some chan
+  pub of : NamesDirectory x (chan .fid)
+
+abbrev pub DirectoryHolds : (Store → List ℕ → Result) → Type 0
+DirectoryHolds call = (s : Store) (bytes : List ℕ) (name : NAME) → syllables bytes ≡ some name → (reportOf (call s bytes) ≡ IsDirectory) ↔ (view s .dnames name ≡ true)
+
+-- the old name is a directory's; or it is an ordinary file's, and the new one a directory's
+abbrev pub EitherDirectory : State → NAME → NAME → Type 0
+EitherDirectory x oldname newname = (x .dnames oldname ≡ true) ⊎ ((oldname ∈dom x .nstore) × (x .dnames oldname ≡ false) × (x .dnames newname ≡ true))
+
+abbrev pub TwoDirectoriesHolds : (Store → List ℕ → List ℕ → Result) → Type 0
+TwoDirectoriesHolds call =
+    (s : Store) → Ready s → (old new : List ℕ) (oldname newname : NAME) → syllables old ≡ some oldname → syllables new ≡ some newname
+    → (reportOf (call s old new) ≡ IsDirectory) ↔ EitherDirectory (view s) oldname newname
+
+pub record DirectoryErrs : Type 0 where
+  pub of-write : (s : Store) → Ready s → (c : ℕ) (bytes : List ℕ) → (reportOf (write c bytes s) ≡ IsDirectory) ↔ HoldsDirectory (view s) c
+  pub of-create : DirectoryHolds (λ s bytes. create bytes s)
+  pub of-unlink : DirectoryHolds (λ s bytes. unlink bytes s)
+  pub of-link : TwoDirectoriesHolds (λ s old new. link old new s)
+  pub of-move : TwoDirectoriesHolds (λ s old new. move old new s)
 
 -- ---- figures 4.1 and 4.2: the operations with their errors
 

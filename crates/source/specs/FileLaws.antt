@@ -1,20 +1,18 @@
 -- Our reading and writing of files, as rows of bytes, are the source's partial functions (4.3.2).
-use Prim.Native.Nat.{ℕ, zero, suc, _+_, _-_, _≤_, _<_, min, max}
+use Prim.Native.Nat.{ℕ, zero, suc, _+_, _-_, _≤_, _<_, max}
 use mathlib.Core.Path.{_≡_, refl, ap, ap₂, sym, _∙_, fun-ext}
 use mathlib.Core.Logic.{⊎-elim}
 use mathlib.Core.List.{List, [], _∷_}
-use mathlib.Core.Bool.{false, _&&_}
 use mathlib.Core.Option.{Option, none, some, Option·some-injective, Option·some-ne-none}
 use native.Mathlib.Omega.{arith}
 use lib.ListN.{length, getD, getElem?}
-use lib.Dec.{leb}
 use borrow.Author.Tests.{le-leb, lt-leb}
-use Rattle.records.specs.Rows.{pick}
 use Rattle.records.specs.Tests.{lt-or-ge}
 use Rattle.meaning.specs.File.{readFILE, writeFILE}
 use Rattle.meaning.specs.FileLaws.{length-read, byte-read, length-write, byte-data, byte-before, byte-after, byte-past}
 use Rattle.source.specs.Sets.{_⇸_, above, _⊕_, _◁_, _··_, seq}
 use Rattle.source.specs.Files.{FILE, _after_, _shift_, zeroes}
+use Rattle.source.specs.Files as Schema
 
 -- ---- a sequence's elements
 
@@ -75,7 +73,7 @@ module _ (file : FILE) (offset count : ℕ) where
       no-element (readFILE file offset count) k (omega arith) ∙ sym (range-out (file after offset) count k h))
       (lt-or-ge k count)
 
-  pub read-seq : seq (readFILE file offset count) ≡ 1 ·· count ◁ file after offset
+  read-seq : seq (readFILE file offset count) ≡ 1 ·· count ◁ file after offset
   read-seq = fun-ext read-at
 
 -- ---- writing
@@ -142,5 +140,19 @@ module _ (file : FILE) (offset : ℕ) (bytes : List ℕ) where
           (λ (m : length file ≤ k). no-element new k (omega arith) ∙ sym (no-element file k m))
           (lt-or-ge k (length file))
 
-  pub write-seq : seq new ≡ zeroes offset ⊕ seq file ⊕ bytes shift offset
+  write-seq : seq new ≡ zeroes offset ⊕ seq file ⊕ bytes shift offset
   write-seq = fun-ext write-at
+
+-- ---- the schemas hold of our files, and determine what is read and what is written
+
+pub read-schema : (file : FILE) (offset count : ℕ) → Schema.readFILE file file offset count (readFILE file offset count)
+read-schema file offset count = record { stays = refl; reads = read-seq file offset count }
+
+pub read-one : (file file′ file″ : FILE) (offset count : ℕ) (a b : List ℕ) → Schema.readFILE file file′ offset count a → Schema.readFILE file file″ offset count b → a ≡ b
+read-one file file′ file″ offset count a b p q = seq-one a b (p .reads ∙ sym (q .reads))
+
+pub write-schema : (file : FILE) (offset : ℕ) (bytes : List ℕ) → Schema.writeFILE file (writeFILE file offset bytes) offset bytes
+write-schema file offset bytes = record { writes = write-seq file offset bytes }
+
+pub write-one : (file a b : FILE) (offset : ℕ) (bytes : List ℕ) → Schema.writeFILE file a offset bytes → Schema.writeFILE file b offset bytes → a ≡ b
+write-one file a b offset bytes p q = seq-one a b (p .writes ∙ sym (q .writes))

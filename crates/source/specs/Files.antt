@@ -25,9 +25,9 @@ abbrev pub _shift_ : FILE → ℕ → ℕ ⇸ ℕ
 abbrev pub zeroes : ℕ → ℕ ⇸ ℕ
 zeroes n = 1 ·· n ⟼ 0
 
-pub record readFILE (file file′ : FILE) (offset size : ℕ) (bytes : List ℕ) : Type 0 where
+pub record readFILE (file file′ : FILE) (offset size : ℕ) (out : List ℕ) : Type 0 where
   pub stays : file′ ≡ file
-  pub reads : seq bytes ≡ 1 ·· size ◁ file after offset
+  pub reads : seq out ≡ 1 ·· size ◁ file after offset
 
 pub record writeFILE (file file′ : FILE) (offset : ℕ) (bytes : List ℕ) : Type 0 where
   pub writes : seq file′ ≡ zeroes offset ⊕ seq file ⊕ bytes shift offset
@@ -54,9 +54,9 @@ pub record ΦSS (fstore fstore′ : FSTORE) (fid : FID) (file file′ : FILE) : 
   pub is : fstore fid ≡ some file
   pub others : fstore′ ≡ fstore ⊕ the fid ⟼ file′
 
-pub record readSS (fstore fstore′ : FSTORE) (fid : FID) (file file′ : FILE) (offset size : ℕ) (bytes : List ℕ) : Type 0 where
+pub record readSS (fstore fstore′ : FSTORE) (fid : FID) (file file′ : FILE) (offset size : ℕ) (out : List ℕ) : Type 0 where
   pub frame : ΦSS fstore fstore′ fid file file′
-  pub reads : readFILE file file′ offset size bytes
+  pub reads : readFILE file file′ offset size out
 
 pub record writeSS (fstore fstore′ : FSTORE) (fid : FID) (file file′ : FILE) (offset : ℕ) (bytes : List ℕ) : Type 0 where
   pub frame : ΦSS fstore fstore′ fid file file′

@@ -3,7 +3,7 @@ use Prim.Native.Nat.{ℕ, _<_}
 use mathlib.Core.Path.{_≡_}
 use mathlib.Core.List.{List}
 use mathlib.Core.Bool.{true}
-use mathlib.Core.Option.{Option, none, some}
+use mathlib.Core.Option.{some}
 use Rattle.meaning.specs.declared.Report.{Report}
 use Rattle.meaning.specs.declared.Report.the-variants.{NoSuchCid, NoSuchName, NoFreeCids}
 use Rattle.source.specs.Sets.{_⇸_, ℙ, _∈dom_, _∉dom_}
@@ -75,10 +75,11 @@ pub record openFS (name : NAME) (cid : CID) (x x′ : State) : Type 0 where
   pub chan : CHAN
   pub channel : openCS (x .cstore) (x′ .cstore) chan cid
   pub names : lookupNS (x .nstore) (x′ .nstore) name (chan .fid)
+  pub unchanged : ΞNS x x′
 
-pub record readFS (cid : CID) (size : ℕ) (bytes : List ℕ) (x x′ : State) : Type 0 where
+pub record readFS (cid : CID) (size : ℕ) (out : List ℕ) (x x′ : State) : Type 0 where
   pub change : ΔFS x x′
-  pub reads : readAS (x .fstore) (x′ .fstore) (x .cstore) (x′ .cstore) cid size bytes
+  pub reads : readAS (x .fstore) (x′ .fstore) (x .cstore) (x′ .cstore) cid size out
   pub names : ΞNS x x′
 
 pub record writeFS (cid : CID) (bytes : List ℕ) (x x′ : State) : Type 0 where

@@ -7,16 +7,19 @@ pub mod View
 pub mod Departures
 pub mod FileLaws
 pub mod ViewLaws
+pub mod Accepted
+pub mod InvariantStatements
 pub mod Invariants
 pub mod StateLaws
 pub mod StepLaws
 pub mod NamedBy
 pub mod Tree
 pub mod Freeing
-pub mod Accepted
 pub mod ChannelStatements
 pub mod Moves
+pub mod HeldChannel
 pub mod ChannelProofs
+pub mod Writing
 pub mod OpenClose
 pub mod Renamed
 pub mod NameSteps
@@ -24,6 +27,7 @@ pub mod Encoding
 pub mod NameStatements
 pub mod Unlinking
 pub mod Linking
+pub mod Emptying
 pub mod Creating
 pub mod Moving
 pub mod Listing
@@ -34,3 +38,4 @@ pub mod Causes
 pub mod ErrorProofs
 pub mod NameErrors
 pub mod WholeCalls
+pub mod DirectoryErrors

@@ -1,31 +1,30 @@
 -- link is its schema.
-use Prim.Native.Nat.{ℕ, _+_, _≤_, _<_}
-use mathlib.Core.Path.{_≡_, refl, ap, sym, _∙_}
+use Prim.Native.Nat.{ℕ, _<_}
+use mathlib.Core.Path.{_≡_, refl, _∙_}
 use mathlib.Core.Logic.{_≢_, ⊎-elim}
-use mathlib.Core.List.{List, [], _∷_}
-use mathlib.Core.Bool.{Bool, true, false, true≢false}
-use mathlib.Core.Option.{Option, none, some}
+use mathlib.Core.Bool.{true, false}
+use mathlib.Core.Option.{some}
 use native.Mathlib.Omega.{arith}
 use lib.ListN.{length}
 use Rattle.records.specs.Tests.{tested, same-or-not}
-use Rattle.meaning.specs.Name.{isSyllable, syllables}
+use Rattle.meaning.specs.Name.{isSyllable}
 use Rattle.meaning.specs.Store.{Store, afterAll, inUse, isDirectory, named, front, last, isOrphan, letGo}
 use Rattle.meaning.specs.Result.{missing, nowhere, ifFits}
 use Rattle.meaning.specs.NameCalls.{parent, link, ifNamingFits}
 use Rattle.soundness.specs.Use.{used}
 use Rattle.trees.specs.Standing.{Place, standing, vacant, missing-some, last-spelled}
 use Rattle.trees.specs.Naming.{withName}
-use Rattle.source.specs.Sets.{_∈dom_, _⊕_, _⟼_, theName}
+use Rattle.source.specs.Sets.{_⊕_, _⟼_, theName}
 use Rattle.source.specs.Naming.{NAME}
-use Rattle.source.specs.Filing.{State, FS, ΞNS, by-channel, linkFS0, direncode}
-use Rattle.source.specs.Departures.{freeing, replacing, nothing, something, linkFS, linking}
+use Rattle.source.specs.Filing.{State, FS, ΞNS, by-channel, direncode}
+use Rattle.source.specs.Departures.{replacing, nothing, something, linkFS, linking}
 use Rattle.source.specs.View.{view, dirformat, RootFid}
 use Rattle.source.specs.ViewLaws.{numbered-some, numbered-none, file-there}
 use Rattle.source.specs.Invariants.{filing-system, name-used, directory-there}
 use Rattle.source.specs.StateLaws.{replacing-names}
 use Rattle.source.specs.NameSteps.{Rewritten, given-names, given-facts}
 use Rattle.source.specs.Encoding.{naming-state, naming-filing, encoded, not-front}
-use Rattle.source.specs.Accepted.{Ready, Accepted, accepted, past, spelled}
+use Rattle.source.specs.Accepted.{Ready, accepted, past, spelled}
 use Rattle.source.specs.NameStatements.{SameDirectories, LinkHolds}
 use Rattle.source.specs.Unlinking.{plain-name, lets-go}
 
@@ -89,16 +88,17 @@ module _ (s : Store) (ready : Ready s) (from to : NAME) (there : missing s from 
       encoded mid mid-filing t (facts .channels) mid-names (facts .kept) (parent s to) (front to) (place-directory s to more p) (place-front s to more p f) (facts .files)
 
   given : linkFS from to (view s) (view t)
-  given =
-      (mid,
-      record {
-        change = record { before = fs; after = mid-filing };
-        files = refl;
-        channels = refl;
-        fid = f;
-        names = record { is = numbered-some f (missing-some s from there); links = refl };
-      },
-      encodes)
+  given = (
+    mid,
+    record {
+      change = record { before = fs; after = mid-filing };
+      files = refl;
+      channels = refl;
+      fid = f;
+      names = record { is = numbered-some f (missing-some s from there); links = refl };
+    },
+    encodes,
+  )
 
   -- there is no file 0
   none-goes : named s to ≡ 0 → view (afterAll t (letGo t (named s to))) ≡ view t

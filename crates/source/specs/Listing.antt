@@ -1,14 +1,14 @@
 -- A directory's listing, 14 bytes a name, has the names of the records that are not blank.
-use Prim.Native.Nat.{ℕ, zero, suc, _+_, _-_, _*_, _≤_, _<_, min}
+use Prim.Native.Nat.{ℕ, zero, suc, _+_, _*_, _≤_, _<_}
 use mathlib.Core.Path.{_≡_, refl, ap, sym, _∙_}
 use mathlib.Core.Logic.{_≢_, ⊎-elim}
-use mathlib.Core.List.{List, [], _∷_, _++_}
-use mathlib.Core.Bool.{Bool, true, false, not, true≢false}
+use mathlib.Core.List.{List, [], _++_}
+use mathlib.Core.Bool.{true, false, not, true≢false}
 use native.Mathlib.Omega.{arith}
 use lib.ListN.{length, take, drop, getD, length-append, length-drop}
 use lib.Seq.{take-at, drop-append-add, getD-drop}
 use lib.Dec.{eqb}
-use Rattle.records.specs.Rows.{pick, tally, lowest, sum, howMany}
+use Rattle.records.specs.Rows.{tally, sum, howMany}
 use Rattle.records.specs.RowLaws.{lowest-cong, sum-cong}
 use Rattle.records.specs.Numbers.{one}
 use Rattle.records.specs.Tests.{tested, same-or-not}

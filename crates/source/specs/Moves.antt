@@ -1,11 +1,10 @@
 -- A channel that is moved, or opened: the frame that read, write and seek share.
-use Prim.Native.Nat.{ℕ, _+_, _≤_, _<_}
+use Prim.Native.Nat.{ℕ, _<_}
 use mathlib.Core.Path.{_≡_, refl, ap, sym, _∙_}
 use mathlib.Core.Logic.{_≢_, ⊎-elim}
-use mathlib.Core.Bool.{Bool, true, false, not}
-use mathlib.Core.Option.{Option, none, some}
-use native.Mathlib.Omega.{arith}
-use Rattle.meaning.specs.Store.{Store, Channel, channel, after, channelTo, inUse, isOpen}
+use mathlib.Core.Bool.{true}
+use mathlib.Core.Option.{some}
+use Rattle.meaning.specs.Store.{Store, Channel, channel, after, isOpen}
 use Rattle.source.specs.Sets.{_⇸_, _∈dom_, _⊕_, _⟼_, the}
 use Rattle.source.specs.Channels.{CHAN, ΦAS}
 use Rattle.source.specs.Filing.{State, by-channel, FS, ΔFS, ΞNS}

@@ -1,21 +1,19 @@
 -- The name store where operations are composed, as the source's linkNS, destroyNS and moveNS say; and move is its schema.
 use Prim.Native.Nat.{ℕ}
-use mathlib.Core.Path.{_≡_, refl, ap, sym, _∙_}
-use mathlib.Core.List.{List, [], _∷_, _++_}
-use mathlib.Core.Option.{Option, some}
-use Rattle.meaning.specs.Name.{syllables}
+use mathlib.Core.Path.{ap, _∙_}
+use mathlib.Core.List.{List}
 use Rattle.meaning.specs.Store.{Store, Change, afterAll}
 use Rattle.meaning.specs.NameCalls.{link, unlink, move}
-use Rattle.keeping.specs.Sure.{Sure, Sized, sized-after, after-both}
+use Rattle.keeping.specs.Sure.{Sure, sized-after, after-both}
 use Rattle.keeping.specs.OnNames.{good-link}
-use Rattle.source.specs.Sets.{_⊕_, _⩤_, _⟼_, theName}
+use Rattle.source.specs.Sets.{_⩤_, theName}
 use Rattle.source.specs.Naming.{NAME, NSTORE, createNS, linkNS, destroyNS, moveNS}
-use Rattle.source.specs.Filing.{State, ΞNS}
+use Rattle.source.specs.Filing.{State}
 use Rattle.source.specs.Departures.{createFS, unlinking, linking, moving}
 use Rattle.source.specs.View.{view}
 use Rattle.source.specs.StateLaws.{freeing-names, replacing-names}
-use Rattle.source.specs.Accepted.{Ready, sized, Accepted, accepted-map, accepted-then}
-use Rattle.source.specs.NameStatements.{SameDirectories, MoveHolds}
+use Rattle.source.specs.Accepted.{Ready, sized, accepted-map, accepted-then}
+use Rattle.source.specs.NameStatements.{MoveHolds}
 use Rattle.source.specs.Unlinking.{unlink-holds}
 use Rattle.source.specs.Linking.{link-holds}
 

@@ -1,28 +1,25 @@
 -- NoSuchName and NoFreeCids are reported exactly where the source's NameErr and ChanErr hold, and no earlier cause does.
 use Prim.Native.Nat.{ℕ}
-use mathlib.Core.Path.{_≡_, refl, sym, ap, _∙_}
+use mathlib.Core.Path.{_≡_, refl}
 use mathlib.Core.Logic.{_≢_, _⊎_, inl, inr, _↔_, Iff·trans, ⊎-elim}
-use mathlib.Core.List.{List, [], _∷_}
-use mathlib.Core.Bool.{Bool, true, false, not}
-use mathlib.Core.Option.{Option, none, some, Option·none-ne-some}
-use Rattle.records.specs.Rows.{pick}
+use mathlib.Core.List.{List}
+use mathlib.Core.Bool.{true, false}
+use mathlib.Core.Option.{some}
 use Rattle.records.specs.Tests.{tested}
 use Rattle.meaning.specs.Name.{syllables}
-use Rattle.meaning.specs.Store.{Store, File, Change, afterAll, isDirectory, named}
-use Rattle.meaning.specs.Result.{Result, done, unless, missing, nowhere, allOpen}
+use Rattle.meaning.specs.Store.{Store, File, Change, isDirectory, named}
+use Rattle.meaning.specs.Result.{Result, done, missing, nowhere, allOpen}
 use Rattle.meaning.specs.NameCalls.{create, open′, link, unlink, move, ls, ifNamingFits}
 use Rattle.meaning.specs.Run.{numberOf}
 use Rattle.meaning.specs.declared.Report.{Report}
 use Rattle.meaning.specs.declared.Report.the-variants.{Ok, NoSuchName, NoFreeCids, IsDirectory, NotDirectory, NoFreeFids, NoRoom, TooBig, OutShort}
-use Rattle.source.specs.Sets.{_∈dom_, _∉dom_, _⊕_, _⟼_, theName}
-use Rattle.source.specs.Naming.{NAME, NSTORE}
+use Rattle.keeping.specs.Moves.{move-refused, link-refused}
+use Rattle.source.specs.Sets.{_∈dom_}
+use Rattle.source.specs.Naming.{NAME}
 use Rattle.source.specs.View.{view}
-use Rattle.source.specs.StateLaws.{defined, over-defined}
-use Rattle.source.specs.Accepted.{Ready, Accepted, when-done}
-use Rattle.source.specs.Linking.{link-holds}
-use Rattle.source.specs.Moving.{link-names}
+use Rattle.source.specs.Accepted.{Ready, sized}
 use Rattle.source.specs.ErrorStatements.{reportOf, Missing, Nowhere, NoLink, NoneFree, NameErrHolds, TwoNamesHolds, NameErrs, ChanErrs}
-use Rattle.source.specs.Reports.{other-report, Never, never-done, never-unless, never-fits, reported-first, reported-later, reported-twice, reported-named, reported-then}
+use Rattle.source.specs.Reports.{other-report, Never, never-done, never-unless, never-fits, reported-first, reported-later, reported-twice, reported-named, report-refused, refused-report, in-second, both-parts, in-right}
 use Rattle.source.specs.Causes.{name-missing, name-there, name-nowhere, name-somewhere, none-free}
 
 -- ---- what never comes later
@@ -69,21 +66,12 @@ create-nowhere s bytes name e =
     (λ (there : missing s name ≡ false). rw there (done-name _ _ _))
     (tested (missing s name)))))) (name-nowhere s name))
 
--- in a part of a fact
-in-second : {A B C : Type 0} → B ↔ C → (A × B) ↔ (A × C)
-in-second f = (λ h. (h .0, f .0 (h .1)), λ h. (h .0, f .1 (h .1)))
-
-both-parts : {A B C D : Type 0} → A ↔ B → C ↔ D → (A × C) ↔ (B × D)
-both-parts f g = (λ h. (f .0 (h .0), g .0 (h .1)), λ h. (f .1 (h .0), g .1 (h .1)))
-
-in-right : {A B C D : Type 0} → C ↔ D → (A ⊎ (B × C)) ↔ (A ⊎ (B × D))
-in-right f = (λ h. ⊎-elim (λ a. inl a) (λ b. inr (b .0, f .0 (b .1))) h, λ h. ⊎-elim (λ a. inl a) (λ b. inr (b .0, f .1 (b .1))) h)
-
 -- the old name is missing; or it is there, an ordinary file's, and the new name has nowhere to go
 no-link : (s : Store) (from to : NAME) → ((missing s from ≡ true) ⊎ ((missing s from ≡ false) × ((isDirectory s (named s from) ≡ false) × (nowhere s to ≡ true)))) ↔ NoLink (view s) from to
-no-link s from to =
-    (λ h. ⊎-elim (λ gone. inl (name-missing s from .0 gone)) (λ h. inr (name-there s from .0 (h .0), h .1 .0, name-nowhere s to .0 (h .1 .1))) h,
-    λ h. ⊎-elim (λ gone. inl (name-missing s from .1 gone)) (λ h. inr (name-there s from .1 (h .0), (h .1, name-nowhere s to .1 (h .2)))) h)
+no-link s from to = (
+  λ h. ⊎-elim (λ gone. inl (name-missing s from .0 gone)) (λ h. inr (name-there s from .0 (h .0), h .1 .0, name-nowhere s to .0 (h .1 .1))) h,
+  λ h. ⊎-elim (λ gone. inl (name-missing s from .1 gone)) (λ h. inr (name-there s from .1 (h .0), (h .1, name-nowhere s to .1 (h .2)))) h,
+)
 
 pub link-nowhere : TwoNamesHolds (λ s old new. link old new s)
 unfolding link numberOf
@@ -98,23 +86,18 @@ link-nowhere s ready old new from to e h =
     (never-unless NoSuchName _ IsDirectory _ (other-report IsDirectory NoSuchName refl) (naming-fits-name s to _ _ (done-name _ _ _)))))))
     (no-link s from to))))
 
--- after a link its old name is still there
-still-there : (s : Store) → Ready s → (old new : List ℕ) (from to : NAME) → syllables old ≡ some from → syllables new ≡ some to
-    → (numbers bytes : List ℕ) (changes : List Change) → link old new s ≡ done numbers bytes changes → from ∈dom view (afterAll s changes) .nstore
-still-there s ready old new from to e h numbers bytes changes is =
-    let linked = when-done _ (link old new s) numbers bytes changes is (link-holds s ready old new from to e h) in
-    let (fid, ns) = link-names (view s) (view (afterAll s changes)) from to (linked .0) in
-    defined (ns .links) from (over-defined (view s .nstore) (theName to) fid from (fid, ns .is))
+-- a move is refused exactly where its link is
+pub move-reports : (s : Store) → Ready s → (old new : List ℕ) (why : Report) → Ok ≢ why → (reportOf (move old new s) ≡ why) ↔ (reportOf (link old new s) ≡ why)
+move-reports s ready old new why other =
+    let z = sized s ready in (
+      λ m. refused-report why (link old new s) (move-refused s (ready .well) z old new why (report-refused why other (move old new s) m)),
+      λ l. refused-report why (move old new s) (link-refused s (ready .well) z old new why (report-refused why other (link old new s) l)),
+    )
 
 pub move-nowhere : TwoNamesHolds (λ s old new. move old new s)
-unfolding move numberOf
+unfolding numberOf
 move-nowhere s ready old new from to e h =
-    Iff·trans
-    (reported-then NoSuchName (other-report Ok NoSuchName refl) s (link old new s) (unlink old)
-    (λ numbers bytes changes is gone.
-    let (fid, there) = still-there s ready old new from to e h numbers bytes changes is in
-    Option·none-ne-some fid (sym (unlink-missing (afterAll s changes) old from e .0 gone) ∙ there)))
-    (link-nowhere s ready old new from to e h)
+    Iff·trans (move-reports s ready old new NoSuchName (other-report Ok NoSuchName refl)) (link-nowhere s ready old new from to e h)
 
 pub name-errs : NameErrs
 name-errs =

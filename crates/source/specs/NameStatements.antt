@@ -1,6 +1,6 @@
 -- Each accepted call on names is its schema of the source, with 01's departures: freeing where the source destroys, and
 -- directories, which these calls refuse, so that dnames stays. A name is given as bytes; the source's name is its syllables.
-use Prim.Native.Nat.{ℕ, _*_}
+use Prim.Native.Nat.{ℕ, _*_, _<_}
 use mathlib.Core.Path.{_≡_}
 use mathlib.Core.List.{List, [], _∷_}
 use mathlib.Core.Option.{some}
@@ -18,11 +18,11 @@ use Rattle.source.specs.Accepted.{Ready, Accepted}
 abbrev pub SameDirectories : State → State → Type 0
 SameDirectories x x′ = x′ .dnames ≡ x .dnames
 
--- create: the channel
+-- create: the channel, one of the store's
 abbrev pub CreateHolds : Type 0
 CreateHolds =
     (s : Store) → Ready s → (bytes : List ℕ) (name : NAME) → syllables bytes ≡ some name → Accepted (create bytes s) λ numbers none changes.
-    (c : ℕ) × createFS name c (view s) (view (afterAll s changes)) × (numbers ≡ c ∷ []) × SameDirectories (view s) (view (afterAll s changes))
+    (c : ℕ) × createFS name c (view s) (view (afterAll s changes)) × (numbers ≡ c ∷ []) × (c < s .channelCount) × SameDirectories (view s) (view (afterAll s changes))
 
 abbrev pub UnlinkHolds : Type 0
 UnlinkHolds =

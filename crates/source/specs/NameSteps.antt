@@ -1,17 +1,16 @@
 -- The source's state where a name is given to a file, or taken: the name store as createNS and destroyNS say, and in the file
 -- store no file changed but the name's directory.
-use Prim.Native.Nat.{ℕ, _+_, _≤_, _<_}
+use Prim.Native.Nat.{ℕ, _<_}
 use mathlib.Core.Path.{_≡_, refl, ap, sym, _∙_, fun-ext}
 use mathlib.Core.Logic.{_≢_, ⊎-elim}
-use mathlib.Core.List.{List, [], _∷_}
-use mathlib.Core.Bool.{Bool, true, false, true≢false}
-use mathlib.Core.Option.{Option, none, some}
+use mathlib.Core.List.{List}
+use mathlib.Core.Bool.{Bool, true, false}
+use mathlib.Core.Option.{none, some}
 use native.Mathlib.Omega.{arith}
 use lib.ListN.{length}
 use Rattle.records.specs.Rows.{pick}
-use Rattle.records.specs.Tests.{tested, same-or-not}
-use Rattle.meaning.specs.Name.{Entry, entry, isSyllable, written, entryIn, blankRecord, recordCount, isBlank, entryAt}
-use Rattle.meaning.specs.Store.{Store, File, inUse, isDirectory, named, front, last}
+use Rattle.meaning.specs.Name.{Entry, entry, isSyllable, written, entryIn, blankRecord, isBlank}
+use Rattle.meaning.specs.Store.{Store, File, inUse, isDirectory, named, last}
 use Rattle.meaning.specs.NameCalls.{parent, recordFor, rewritten, naming, unnaming}
 use Rattle.names.specs.ByteLaws.{not-false-true}
 use Rattle.soundness.specs.Use.{directory-used, not-so}
@@ -28,7 +27,7 @@ use Rattle.source.specs.Naming.{NAME}
 use Rattle.source.specs.View.{numbered, view}
 use Rattle.source.specs.ViewLaws.{numbered-some, numbered-none, file-there, file-used, same-name-or-not, renamed, unnamed}
 use Rattle.source.specs.StepLaws.{file-channels}
-use Rattle.source.specs.NamedBy.{Names, record-of}
+use Rattle.source.specs.NamedBy.{record-of}
 use Rattle.source.specs.Tree.{Tree}
 use Rattle.source.specs.Renamed.{others-same, tree-after}
 

@@ -2,8 +2,7 @@
 use Prim.Native.Nat.{ℕ, zero, suc, _+_, _-_, _≤_, _<_}
 use mathlib.Core.Path.{_≡_, refl, ap, sym, _∙_}
 use mathlib.Core.Logic.{_≢_, ⊎-elim}
-use mathlib.Core.List.{List, [], _∷_, _++_}
-use mathlib.Core.Bool.{Bool, true, false, true≢false}
+use mathlib.Core.Bool.{Bool, true, false}
 use native.Mathlib.Omega.{arith}
 use lib.ListN.{length}
 use lib.Dec.{eqb}
@@ -11,21 +10,20 @@ use borrow.Author.Tests.{eqb-true, eq-eqb, ne-eqb}
 use Rattle.records.specs.Rows.{pick, tally, lowest, sum, howMany}
 use Rattle.records.specs.RowLaws.{sum-term, sum-update, some-lowest, lowest-hit}
 use Rattle.records.specs.Tests.{same-or-not, lt-or-ge}
-use Rattle.names.specs.ByteLaws.{is-same, not-false-true}
-use Rattle.meaning.specs.Name.{Entry, same, recordCount, isBlank, entryAt, recordNamed, inDirectory, namesIn}
-use Rattle.meaning.specs.Store.{Store, root, inUse, isDirectory, within, named, front, last, names, held}
+use Rattle.meaning.specs.Name.{recordCount, entryAt, recordNamed, inDirectory, namesIn}
+use Rattle.meaning.specs.Store.{Store, root, isDirectory, within, named, front, last, names}
 use Rattle.soundness.specs.Use.{directory-used}
-use Rattle.soundness.specs.Well.{Well}
-use Rattle.soundness.specs.WellFacts.{blank-file}
-use Rattle.lookup.specs.Walk.{named-more, named-last}
+use Rattle.lookup.specs.Walk.{named-last}
 use Rattle.trees.specs.Records.{named-has, in-found, in-some}
-use Rattle.trees.specs.Lookups.{within-directory, within-is, named-cong}
+use Rattle.trees.specs.Lookups.{within-directory, within-is}
 use Rattle.trees.specs.Standing.{some-syllable}
+use Rattle.trees.specs.Rewrite.{givenBy}
+use Rattle.keeping.specs.References.{record-named}
 use Rattle.source.specs.Naming.{NAME}
 
 -- ---- a sum or a count that is not 0 has a term that is not
 
-pub some-term : (n : ℕ) (g : ℕ → ℕ) → 0 < sum n g → (i : ℕ) × (i < n) × (0 < g i)
+some-term : (n : ℕ) (g : ℕ → ℕ) → 0 < sum n g → (i : ℕ) × (i < n) × (0 < g i)
 unfolding sum
 some-term zero g h = absurd (omega arith)
 some-term (suc n) g h =
@@ -33,10 +31,6 @@ some-term (suc n) g h =
     (λ (l : 0 < sum n g). let (i, below, there) = some-term n g l in (i, omega arith, there))
     (λ (l : sum n g ≤ 0). (n, omega arith, omega arith))
     (lt-or-ge 0 (sum n g))
-
-pub one-passes : (n : ℕ) (p : ℕ → Bool) (i : ℕ) → i < n → p i ≡ true → 0 < howMany n p
-unfolding howMany
-one-passes n p i h e = let one : tally (p i) ≡ 1 = ap tally e in omega (arith, sum-term n (λ j. tally (p j)) i h)
 
 -- ---- records that name a file
 
@@ -49,13 +43,10 @@ pub record Names (s : Store) (f : ℕ) : Type 0 where
   pub file : entryAt (s .file d .bytes) i .file ≡ f
 
 module _ (s : Store) (f : ℕ) where
-  abbrev pub names-of : ℕ → ℕ
-  names-of r = let n = namesIn (s .file (suc r) .bytes) f in pick (isDirectory s (suc r)) n 0
-
   pub its-record : 0 < names s f → Names s f
   unfolding names namesIn
   its-record h =
-      let (r, below, there) = some-term (s .fileCount) names-of h in
+      let (r, below, there) = some-term (s .fileCount) (givenBy s f) h in
       go r (isDirectory s (suc r)) refl there
     where
       go : (r : ℕ) (t : Bool) → isDirectory s (suc r) ≡ t → 0 < pick t (namesIn (s .file (suc r) .bytes) f) 0 → Names s f
@@ -72,23 +63,6 @@ module _ (s : Store) (f : ℕ) where
           }
       go r false is there = absurd (omega arith)
 
-  in-it : (dir : List ℕ) (i : ℕ) → i < recordCount dir → entryAt dir i .file ≡ f → 0 < namesIn dir f
-  unfolding namesIn
-  in-it dir i h e = one-passes (recordCount dir) (λ j. eqb (entryAt dir j .file) f) i h (eq-eqb (entryAt dir i .file) f e)
-
-  counted : (r : ℕ) → suc r ≤ s .fileCount → names-of r ≤ names s f
-  unfolding names
-  counted r l = sum-term (s .fileCount) names-of r l
-
-  in-directory : (d : ℕ) → isDirectory s d ≡ true → (i : ℕ) → i < recordCount (s .file d .bytes) → entryAt (s .file d .bytes) i .file ≡ f → 0 < names s f
-  in-directory zero is i h e = absurd (omega (arith, directory-used s 0 is .some))
-  in-directory (suc r) is i h e =
-      let here : names-of r ≡ namesIn (s .file (suc r) .bytes) f = rw is in
-      omega (arith, in-it (s .file (suc r) .bytes) i h e, counted r (directory-used s (suc r) is .within))
-
-  pub has-names : Names s f → 0 < names s f
-  has-names n = in-directory (n .d) (n .directory) (n .i) (n .within) (n .file)
-
   -- the record of a name that stands for the file: it lies in the name's directory, and has its last syllable
   pub record-of : (name : NAME) → 0 < length name → named s name ≡ f → f ≢ 0
       → (r : Names s f) × (r .d ≡ named s (front name)) × (entryAt (s .file (r .d) .bytes) (r .i) .name ≡ last name)
@@ -98,14 +72,17 @@ module _ (s : Store) (f : ℕ) where
       let at : f ≡ within s d (last name) = sym is ∙ named-last s name more in
       let d-is = within-directory s d (last name) (λ z. there (at ∙ z)) in
       let its : f ≡ inDirectory dir (last name) = at ∙ within-is s d (last name) d-is in
-      let found : recordNamed dir (last name) < recordCount dir = in-some dir (last name) (λ z. there (its ∙ z)) in
-      (record { d = d; i = recordNamed dir (last name); directory = d-is; within = found; file = sym (its ∙ in-found dir (last name) found) },
-      refl,
-      named-has dir (last name) found)
+      let found : recordNamed dir (last name) < recordCount dir = in-some dir (last name) (λ z. there (its ∙ z)) in (
+        record { d = d; i = recordNamed dir (last name); directory = d-is; within = found; file = sym (its ∙ in-found dir (last name) found) },
+        refl,
+        named-has dir (last name) found,
+      )
 
   -- a file that is not the root is counted by each of its names
   pub name-counts : (name : NAME) → named s name ≡ f → f ≢ 0 → f ≢ root → 0 < names s f
-  name-counts name is there other = has-names (record-of name (some-syllable s name (λ e. other (sym is ∙ e))) is there .0)
+  name-counts name is there other =
+      let r = record-of name (some-syllable s name (λ e. other (sym is ∙ e))) is there .0 in
+      record-named s f (r .d) (r .i) (r .directory) (r .within) (r .file)
 
 -- ---- one record, where there is one name
 
@@ -127,11 +104,18 @@ two-passing n p i j h l a b apart =
 
 module _ (s : Store) (f : ℕ) (once : names s f ≡ 1) where
   -- a directory with a record that names f counts it
-  counts-it : (d : ℕ) → 0 < d → isDirectory s d ≡ true → names-of s f (d - 1) ≡ namesIn (s .file d .bytes) f
+  counts-it : (d : ℕ) → 0 < d → isDirectory s d ≡ true → givenBy s f (d - 1) ≡ namesIn (s .file d .bytes) f
   counts-it zero some is = absurd (omega arith)
   counts-it (suc r) some is =
       let e : suc r - 1 ≡ r = omega arith in
       rw (e, is)
+
+  at-least-one : (r : Names s f) → 0 < namesIn (s .file (r .d) .bytes) f
+  unfolding namesIn howMany
+  at-least-one r =
+      let dir = s .file (r .d) .bytes in
+      let one : tally (eqb (entryAt dir (r .i) .file) f) ≡ 1 = ap tally (eq-eqb (entryAt dir (r .i) .file) f (r .file)) in
+      omega (arith, sum-term (recordCount dir) (λ j. tally (eqb (entryAt dir j .file) f)) (r .i) (r .within))
 
   pub one-directory : (a b : Names s f) → a .d ≡ b .d
   unfolding names
@@ -140,10 +124,14 @@ module _ (s : Store) (f : ℕ) (once : names s f ≡ 1) where
       let v = directory-used s (b .d) (b .directory) in
       ⊎-elim
       (λ (e : a .d ≡ b .d). e)
-      (λ (n : a .d ≢ b .d). absurd (omega (arith,
-      two-terms (s .fileCount) (names-of s f) (a .d - 1) (b .d - 1) (omega arith) (omega arith) (λ (q : a .d - 1 ≡ b .d - 1). absurd (n (omega arith))),
-      counts-it (a .d) (u .some) (a .directory), counts-it (b .d) (v .some) (b .directory),
-      in-it s f (s .file (a .d) .bytes) (a .i) (a .within) (a .file), in-it s f (s .file (b .d) .bytes) (b .i) (b .within) (b .file))))
+      (λ (n : a .d ≢ b .d). absurd (omega (
+        arith,
+        two-terms (s .fileCount) (givenBy s f) (a .d - 1) (b .d - 1) (omega arith) (omega arith) (λ (q : a .d - 1 ≡ b .d - 1). absurd (n (omega arith))),
+        counts-it (a .d) (u .some) (a .directory),
+        counts-it (b .d) (v .some) (b .directory),
+        at-least-one a,
+        at-least-one b,
+      )))
       (same-or-not (a .d) (b .d))
 
   pub one-record : (a b : Names s f) → a .i ≡ b .i
@@ -157,7 +145,10 @@ module _ (s : Store) (f : ℕ) (once : names s f ≡ 1) where
       let b-is : entryAt dir (b .i) .file ≡ f = rw same-d (b .file) in
       ⊎-elim
       (λ (e : a .i ≡ b .i). e)
-      (λ (n : a .i ≢ b .i). absurd (omega (arith,
-      two-passing (recordCount dir) p (a .i) (b .i) (a .within) b-in (eq-eqb (entryAt dir (a .i) .file) f (a .file)) (eq-eqb (entryAt dir (b .i) .file) f b-is) n,
-      counts-it (a .d) (u .some) (a .directory), sum-term (s .fileCount) (names-of s f) (a .d - 1) (omega arith))))
+      (λ (n : a .i ≢ b .i). absurd (omega (
+        arith,
+        two-passing (recordCount dir) p (a .i) (b .i) (a .within) b-in (eq-eqb (entryAt dir (a .i) .file) f (a .file)) (eq-eqb (entryAt dir (b .i) .file) f b-is) n,
+        counts-it (a .d) (u .some) (a .directory),
+        sum-term (s .fileCount) (givenBy s f) (a .d - 1) (omega arith),
+      )))
       (same-or-not (a .i) (b .i))

@@ -18,7 +18,7 @@ NAME = List SYL
 abbrev pub NSTORE : Type 0
 NSTORE = NAME ⇸ FID
 
--- ---- 4.3.9: NS0
+-- ---- 4.3.9: NS0. The boxes of createNS, destroyNS and moveNS are read from the text around them, where the scan has lost them
 
 pub record createNS (nstore nstore′ : NSTORE) (name : NAME) (fid : FID) : Type 0 where
   pub creates : nstore′ ≡ nstore ⊕ theName name ⟼ fid

@@ -1,14 +1,11 @@
 -- open and close are their schemas.
-use Prim.Native.Nat.{ℕ, _+_, _≤_, _<_}
+use Prim.Native.Nat.{ℕ, _<_}
 use mathlib.Core.Path.{_≡_, refl, ap, sym, _∙_}
-use mathlib.Core.Logic.{_≢_, ⊎-elim}
-use mathlib.Core.List.{List, [], _∷_}
-use mathlib.Core.Bool.{Bool, true, false, not, _&&_, true≢false}
-use mathlib.Core.Option.{Option, none, some}
-use native.Mathlib.Omega.{arith}
+use mathlib.Core.Logic.{_≢_}
+use mathlib.Core.Bool.{true, false, true≢false}
+use mathlib.Core.Option.{some}
 use lib.Dec.{ltb, eqb}
 use borrow.Author.Tests.{ltb-true, eqb-true, not-false}
-use Rattle.records.specs.Rows.{lowest}
 use Rattle.records.specs.RowLaws.{lowest-hit}
 use Rattle.records.specs.Tests.{and-false}
 use Rattle.meaning.specs.Store.{Store, Channel, channel, after, afterAll, noChannel, channelTo, root, inUse, isDirectory, isOpen, freeChannel, named, letGo}
@@ -30,10 +27,10 @@ use Rattle.source.specs.StateLaws.{value, defined, without-value, still-
 use Rattle.source.specs.StepLaws.{channel-files, channel-dirs, channel-bytes, channel-names, channel-dropped}
 use Rattle.source.specs.Tree.{Tree, same-tree, well-tree}
 use Rattle.source.specs.Freeing.{let-go}
-use Rattle.source.specs.Moves.{filed, put-names, put-channel, put-change}
-use Rattle.source.specs.Accepted.{Ready, Accepted, accepted, past, spelled}
+use Rattle.source.specs.Moves.{filed, put-channel, put-change}
+use Rattle.source.specs.Accepted.{Ready, accepted, past, spelled}
 use Rattle.source.specs.ChannelStatements.{OpenHolds, CloseHolds}
-use Rattle.source.specs.ChannelProofs.{its-use}
+use Rattle.source.specs.HeldChannel.{its-use}
 
 -- ---- the lowest free channel
 
@@ -77,6 +74,7 @@ module _ (s : Store) (ready : Ready s) (name : NAME) (there : named s name ≢ 0
               opens = put-channel s s (filed s filing) c y (free-below s free) there exists;
             };
         names = record { is = numbered-some (named s name) there; stays = channel-names s c y .names };
+        unchanged = channel-names s c y;
       }
 
 pub open-holds : OpenHolds
@@ -85,7 +83,7 @@ open-holds s ready bytes name e =
     spelled _ name _ _ e (
     past _ _ _ _ λ there.
     past _ _ _ _ λ free.
-    accepted _ _ _ _ (freeChannel s, opened s ready name (missing-some s name there) free, refl))
+    accepted _ _ _ _ (freeChannel s, opened s ready name (missing-some s name there) free, refl, free-below s free))
 
 -- ---- close
 

@@ -1,9 +1,9 @@
 -- What every name stands for where the record of one name is written or blanked: that name apart, what it stood for.
-use Prim.Native.Nat.{ℕ, zero, suc, _+_, _-_, _≤_, _<_, max}
+use Prim.Native.Nat.{ℕ, zero, suc, _-_, _<_}
 use mathlib.Core.Path.{_≡_, refl, ap, ap₂, sym, _∙_}
 use mathlib.Core.Logic.{_≢_, ⊎-elim}
 use mathlib.Core.List.{List, [], _∷_, _++_}
-use mathlib.Core.Bool.{Bool, true, false, true≢false}
+use mathlib.Core.Bool.{true, false, true≢false}
 use native.Mathlib.Omega.{arith}
 use lib.ListN.{length, length-take}
 use Rattle.records.specs.Tests.{same-or-not}
@@ -19,7 +19,7 @@ use Rattle.lookup.specs.Walk.{named-last, front-last}
 use Rattle.trees.specs.Records.{named-has, in-found, in-some, named-own, named-kept}
 use Rattle.trees.specs.Rewrite.{Rewriting, withRecord, own-bytes, other-file, directory-same}
 use Rattle.trees.specs.Lookups.{KeepsDirectories, within-directory, within-is, named-same}
-use Rattle.trees.specs.Standing.{Place, named-empty}
+use Rattle.trees.specs.Standing.{named-empty}
 use Rattle.source.specs.Naming.{NAME}
 use Rattle.source.specs.Tree.{found-by, Tree, well-tree, one-name}
 

@@ -1,5 +1,5 @@
 -- Which report a row of refusals gives: the first whose cause holds.
-use mathlib.Core.Path.{_≡_, refl, sym, ap, _∙_}
+use mathlib.Core.Path.{_≡_, refl, sym, ap}
 use mathlib.Core.Logic.{_≢_, _⊎_, inl, inr, _↔_, ⊎-elim}
 use mathlib.Core.List.{List}
 use mathlib.Core.Bool.{Bool, true, false, true≢false}
@@ -7,9 +7,8 @@ use mathlib.Core.Option.{Option, some}
 use Prim.Native.Nat.{ℕ}
 use lib.Dec.{eqb}
 use borrow.Author.Tests.{eqb-false}
-use Rattle.meaning.specs.Store.{Store, Change, afterAll}
+use Rattle.meaning.specs.Store.{Store, Change}
 use Rattle.meaning.specs.Result.{Result, refused, done, unless, withSyllables, ifFits}
-use Rattle.meaning.specs.NameCalls.{withChanges, andThen}
 use Rattle.meaning.specs.Run.{numberOf}
 use Rattle.meaning.specs.declared.Report.{Report}
 use Rattle.meaning.specs.declared.Report.the-variants.{Ok, TooBig, NoRoom}
@@ -61,14 +60,23 @@ module _ (why : Report) where
   unfolding withSyllables
   reported-named A name bytes r e h = rw e h
 
-  -- of one call, then another that never gives it
-  pub reported-then : Ok ≢ why → (s : Store) (r : Result) (next : Store → Result)
-      → ((numbers bytes : List ℕ) (changes : List Change) → r ≡ done numbers bytes changes → Never (next (afterAll s changes)))
-      → (reportOf (andThen s r next) ≡ why) ↔ (reportOf r ≡ why)
-  unfolding andThen withChanges reportOf
-  reported-then n s (refused other) next h = (λ e. e, λ e. e)
-  reported-then n s (done numbers bytes changes) next h = (λ e. absurd (go (next (afterAll s changes)) (h numbers bytes changes refl) e), λ e. absurd (n e))
-    where
-      go : (r : Result) → Never r → reportOf (withChanges changes r) ≡ why → ⊥
-      go (refused other) n e = n e
-      go (done more-numbers more-bytes more) n e = n e
+  -- a report that is not Ok is a refusal's
+  pub report-refused : Ok ≢ why → (r : Result) → reportOf r ≡ why → r ≡ refused why
+  unfolding reportOf
+  report-refused n (refused other) e = ap refused e
+  report-refused n (done numbers bytes changes) e = absurd (n e)
+
+  pub refused-report : (r : Result) → r ≡ refused why → reportOf r ≡ why
+  unfolding reportOf
+  refused-report r e = ap reportOf e
+
+-- ---- a part of a fact, in other words
+
+pub in-second : {A B C : Type 0} → B ↔ C → (A × B) ↔ (A × C)
+in-second f = (λ h. (h .0, f .0 (h .1)), λ h. (h .0, f .1 (h .1)))
+
+pub both-parts : {A B C D : Type 0} → A ↔ B → C ↔ D → (A × C) ↔ (B × D)
+both-parts f g = (λ h. (f .0 (h .0), g .0 (h .1)), λ h. (f .1 (h .0), g .1 (h .1)))
+
+pub in-right : {A B C D : Type 0} → C ↔ D → (A ⊎ (B × C)) ↔ (A ⊎ (B × D))
+in-right f = (λ h. ⊎-elim (λ a. inl a) (λ b. inr (b .0, f .0 (b .1))) h, λ h. ⊎-elim (λ a. inl a) (λ b. inr (b .0, f .1 (b .1))) h)

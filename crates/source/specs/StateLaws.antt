@@ -1,16 +1,13 @@
 -- Laws of the source's states: who is referred to where names or channels change, and when the invariant goes over.
 use Prim.Native.Nat.{ℕ}
 use mathlib.Core.Path.{_≡_, refl, ap, sym, _∙_}
-use mathlib.Core.Logic.{_≢_, _⊎_, inl, inr, ⊎-elim}
+use mathlib.Core.Logic.{_⊎_, inl, inr}
 use mathlib.Core.Bool.{Bool, true, false}
-use mathlib.Core.Option.{Option, none, some, Option·some-injective, Option·none-ne-some}
-use lib.Dec.{eqb}
-use borrow.Author.Tests.{eqb-true}
+use mathlib.Core.Option.{none, some, Option·some-injective, Option·none-ne-some}
 use Rattle.records.specs.Rows.{pick}
-use Rattle.source.specs.Sets.{_⇸_, ℙ, _∈dom_, above, _⊕_, _⩤_, _⟼_, the}
-use Rattle.source.specs.Files.{FSTORE}
-use Rattle.source.specs.Channels.{CHAN, CSTORE, AS, ΔAS}
-use Rattle.source.specs.Naming.{NAME, NSTORE, NS}
+use Rattle.source.specs.Sets.{_⇸_, ℙ, _∈dom_, above, _⊕_, _⩤_, _⟼_}
+use Rattle.source.specs.Channels.{CHAN, AS, ΔAS}
+use Rattle.source.specs.Naming.{NAME, NS}
 use Rattle.source.specs.Departures.{freeing, stays, goes, replacing, nothing, something}
 use Rattle.source.specs.Filing.{State, Used, by-name, by-channel, FS, ΔFS, ΞNS}
 

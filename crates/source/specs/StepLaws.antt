@@ -1,24 +1,21 @@
 -- The source's state where one channel, or one file that is no directory, changes.
-use Prim.Native.Nat.{ℕ, _+_, _≤_, _<_}
+use Prim.Native.Nat.{ℕ, _≤_, _<_}
 use mathlib.Core.Path.{_≡_, refl, ap, sym, _∙_, fun-ext}
 use mathlib.Core.Logic.{_≢_, ⊎-elim}
-use mathlib.Core.List.{List}
-use mathlib.Core.Bool.{Bool, true, false, not, _&&_, true≢false}
-use mathlib.Core.Option.{Option, none, some}
-use native.Mathlib.Omega.{arith}
-use lib.Dec.{leb, ltb, eqb}
-use borrow.Author.Tests.{eq-eqb, ne-eqb, eqb-true, lt-ltb}
-use Rattle.records.specs.Rows.{pick}
+use mathlib.Core.Bool.{true, false, _&&_, true≢false}
+use mathlib.Core.Option.{none, some}
+use lib.Dec.{leb, ltb}
+use borrow.Author.Tests.{eq-eqb, ne-eqb, lt-ltb}
 use Rattle.records.specs.Tests.{and-false, same-or-not}
-use Rattle.meaning.specs.Store.{Store, File, Channel, file, channel, after, noChannel, inUse, isDirectory, isOpen, named}
-use Rattle.soundness.specs.Use.{Used, used, of-used, directory-used, directory-kind, not-so, both-ways, of-directory}
-use Rattle.trees.specs.AfterFile.{file-changed, file-other, channel-changed, channel-other}
+use Rattle.meaning.specs.Store.{Store, File, Channel, file, channel, after, inUse, isDirectory, isOpen, named}
+use Rattle.soundness.specs.Use.{of-used, directory-kind, not-so}
+use Rattle.trees.specs.AfterFile.{file-changed, file-other}
 use Rattle.trees.specs.Lookups.{named-cong}
 use Rattle.source.specs.Sets.{_⊕_, _⩤_, _⟼_, the}
 use Rattle.source.specs.Naming.{NAME}
 use Rattle.source.specs.Filing.{ΞNS}
 use Rattle.source.specs.View.{numbered, chanOf, view}
-use Rattle.source.specs.ViewLaws.{changed, removed, file-there, channel-there}
+use Rattle.source.specs.ViewLaws.{changed, removed, file-there}
 
 -- ---- two stores with the same directories have the same names
 

@@ -1,21 +1,21 @@
 -- Every directory of a well-formed store has a name, and one only; so has every file that a record names.
-use Prim.Native.Nat.{ℕ, zero, suc, _+_, _-_, _≤_, _<_}
+use Prim.Native.Nat.{ℕ, zero, suc, _+_, _-_, _<_}
 use mathlib.Core.Path.{_≡_, refl, ap, ap₂, sym, _∙_}
 use mathlib.Core.Logic.{_≢_, ⊎-elim}
 use mathlib.Core.List.{List, [], _∷_, _++_}
-use mathlib.Core.Bool.{Bool, true, false, true≢false}
+use mathlib.Core.Bool.{true, false, true≢false}
 use native.Mathlib.Omega.{arith}
-use lib.ListN.{length, take, length-take}
+use lib.ListN.{length, length-take}
 use Rattle.records.specs.Tests.{same-or-not}
 use Rattle.names.specs.ByteLaws.{is-same, not-false-true}
-use Rattle.meaning.specs.Name.{same, recordCount, isBlank, entryAt, recordNamed, inDirectory}
+use Rattle.meaning.specs.Name.{recordCount, isBlank, entryAt, recordNamed, inDirectory}
 use Rattle.meaning.specs.Store.{Store, root, isDirectory, within, named, front, last, names}
 use Rattle.soundness.specs.Use.{directory-used}
 use Rattle.soundness.specs.Well.{Well}
 use Rattle.soundness.specs.WellFacts.{blank-file, root-depth}
-use Rattle.lookup.specs.Walk.{named-more, named-last, front-last}
-use Rattle.trees.specs.Records.{named-is, named-has, in-found}
-use Rattle.trees.specs.Lookups.{within-directory, within-is, named-cong}
+use Rattle.lookup.specs.Walk.{named-more, front-last}
+use Rattle.trees.specs.Records.{named-is, in-found}
+use Rattle.trees.specs.Lookups.{within-is, named-cong}
 use Rattle.trees.specs.Standing.{named-empty}
 use Rattle.trees.specs.Depth.{named-depth}
 use Rattle.source.specs.Naming.{NAME}
@@ -37,9 +37,10 @@ record-reached : (s : Store) (f : ℕ) (r : Names s f) → recordNamed (s .file 
     → (name : NAME) × (named s name ≡ r .d) → (name : NAME) × (named s name ≡ f)
 record-reached s f r own (name, at) =
     let dir = s .file (r .d) .bytes in
-    let syllable = entryAt dir (r .i) .name in
-    (name ++ syllable ∷ [],
-    named-more s name syllable ∙ ap (λ (e : ℕ). within s e syllable) at ∙ within-is s (r .d) syllable (r .directory) ∙ found-by dir (r .i) (r .within) own ∙ r .file)
+    let syllable = entryAt dir (r .i) .name in (
+      name ++ syllable ∷ [],
+      named-more s name syllable ∙ ap (λ (e : ℕ). within s e syllable) at ∙ within-is s (r .d) syllable (r .directory) ∙ found-by dir (r .i) (r .within) own ∙ r .file,
+    )
 
 pub name-of : (s : Store) → Tree s → (f : ℕ) → f ≢ 0 → 0 < names s f → (name : NAME) × (named s name ≡ f)
 name-of s t f there h =

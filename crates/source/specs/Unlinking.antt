@@ -1,22 +1,19 @@
 -- unlink is its schema.
-use Prim.Native.Nat.{ℕ, _+_, _≤_, _<_}
+use Prim.Native.Nat.{ℕ, _<_}
 use mathlib.Core.Path.{_≡_, refl, ap, sym, _∙_}
-use mathlib.Core.Logic.{_≢_, ⊎-elim}
-use mathlib.Core.List.{List, [], _∷_}
-use mathlib.Core.Bool.{Bool, true, false, true≢false}
-use mathlib.Core.Option.{Option, none, some}
-use native.Mathlib.Omega.{arith}
+use mathlib.Core.Logic.{_≢_}
+use mathlib.Core.Bool.{true, false, true≢false}
+use mathlib.Core.Option.{some}
 use lib.ListN.{length}
-use Rattle.meaning.specs.Name.{isSyllable, syllables}
+use Rattle.meaning.specs.Name.{isSyllable}
 use Rattle.meaning.specs.Store.{Store, afterAll, root, inUse, isDirectory, named, front, last, letGo}
 use Rattle.meaning.specs.Result.{missing}
 use Rattle.meaning.specs.NameCalls.{parent, unlink}
 use Rattle.soundness.specs.WellFacts.{root-directory, ordinary-form}
-use Rattle.trees.specs.Standing.{Place, Standing, standing, missing-some, some-syllable, last-spelled}
+use Rattle.trees.specs.Standing.{Standing, standing, missing-some, some-syllable, last-spelled}
 use Rattle.trees.specs.Naming.{withoutName}
-use Rattle.source.specs.Sets.{_⩤_, theName}
 use Rattle.source.specs.Naming.{NAME}
-use Rattle.source.specs.Filing.{State, FS, ΞNS, unlinkFS0, direncode}
+use Rattle.source.specs.Filing.{State, FS, ΞNS, direncode}
 use Rattle.source.specs.Departures.{freeing, unlinkFS, unlinking}
 use Rattle.source.specs.View.{view, dirformat, RootFid}
 use Rattle.source.specs.ViewLaws.{numbered-some}
@@ -24,8 +21,8 @@ use Rattle.source.specs.Invariants.{filing-system, name-used, directory-
 use Rattle.source.specs.StateLaws.{freeing-names}
 use Rattle.source.specs.Freeing.{let-go}
 use Rattle.source.specs.NameSteps.{Rewritten, left-names, left-facts}
-use Rattle.source.specs.Encoding.{unnaming-state, unnaming-filing, encoded, encoded-filing, not-front}
-use Rattle.source.specs.Accepted.{Ready, Accepted, accepted, past, spelled}
+use Rattle.source.specs.Encoding.{unnaming-state, unnaming-filing, encoded, not-front}
+use Rattle.source.specs.Accepted.{Ready, accepted, past, spelled}
 use Rattle.source.specs.NameStatements.{SameDirectories, UnlinkHolds}
 
 -- a file that is no directory is not the root, and its name has a syllable
@@ -88,15 +85,16 @@ module _ (s : Store) (ready : Ready s) (name : NAME) (is-last : isSyllable (last
       encoded mid mid-filing t (facts .channels) mid-names (facts .kept) (parent s name) (front name) its-directory front-named (facts .files)
 
   taken : unlinkFS name (view s) (view t)
-  taken =
-      (mid,
-      record {
-        change = record { before = fs; after = mid-filing };
-        files = refl;
-        channels = refl;
-        names = record { exists = (f, is-named); destroys = refl };
-      },
-      unlink-encodes)
+  taken = (
+    mid,
+    record {
+      change = record { before = fs; after = mid-filing };
+      files = refl;
+      channels = refl;
+      names = record { exists = (f, is-named); destroys = refl };
+    },
+    unlink-encodes,
+  )
 
   in-use : inUse s f ≡ true
   in-use = name-used s (ready .well) (ready .some-file) name (missing-some s name there)

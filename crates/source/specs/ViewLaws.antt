@@ -1,19 +1,19 @@
 -- What the source's state of a store says, in the store's own facts.
-use Prim.Native.Nat.{ℕ, zero, suc, _+_, _≤_, _<_}
+use Prim.Native.Nat.{ℕ, _<_}
 use mathlib.Core.Path.{_≡_, refl, ap, sym, _∙_, fun-ext}
-use mathlib.Core.Logic.{_≢_, _⊎_, inl, inr, ⊎-elim}
+use mathlib.Core.Logic.{_≢_, _⊎_, inl, inr}
 use mathlib.Core.List.{List, [], _∷_}
-use mathlib.Core.Bool.{Bool, true, false, _&&_, true≢false}
-use mathlib.Core.Option.{Option, none, some, Option·some-injective, Option·none-ne-some}
+use mathlib.Core.Bool.{Bool, true, false, not, true≢false}
+use mathlib.Core.Option.{none, some, Option·some-injective, Option·none-ne-some}
 use native.Mathlib.Omega.{arith}
 use lib.ListN.{length}
-use lib.Dec.{eqb}
-use borrow.Author.Tests.{eq-eqb, ne-eqb, eqb-true, eqb-false}
+use lib.Dec.{ltb, eqb}
+use borrow.Author.Tests.{eq-eqb, ne-eqb, eqb-true, eqb-false, ltb-true}
 use Rattle.records.specs.Rows.{pick}
 use Rattle.records.specs.Tests.{and-left, and-right, and-both}
 use Rattle.names.specs.ByteLaws.{same-is, is-same}
 use Rattle.meaning.specs.Name.{same}
-use Rattle.meaning.specs.Store.{Store, Channel, inUse, isDirectory, isOpen, named}
+use Rattle.meaning.specs.Store.{Store, inUse, isOpen}
 use Rattle.source.specs.Sets.{_⇸_, ℙ, _⟼_, _⊕_, _⩤_, _∈dom_, _∉dom_, the, sameName, theName}
 use Rattle.source.specs.Channels.{CHAN}
 use Rattle.source.specs.View.{numbered, chanOf, view}
@@ -72,6 +72,10 @@ module _ (s : Store) where
 
   pub channel-open : (c : ℕ) (chan : CHAN) → view s .cstore c ≡ some chan → isOpen s c ≡ true
   channel-open c chan e = picked-test (chanOf (s .channel c)) chan (isOpen s c) e
+
+  pub open-below : (c : ℕ) → isOpen s c ≡ true → c < s .channelCount
+  unfolding isOpen
+  open-below c o = ltb-true c (s .channelCount) (and-left (ltb c (s .channelCount)) (not (eqb (s .channel c .file) 0)) o)
 
   pub channel-is : (c : ℕ) (chan : CHAN) → view s .cstore c ≡ some chan → chanOf (s .channel c) ≡ chan
   channel-is c chan e = picked-value (chanOf (s .channel c)) chan (isOpen s c) e

@@ -4,10 +4,10 @@ use mathlib.Core.Path.{_≡_, refl}
 use mathlib.Core.Logic.{_⊎_, inl, inr}
 use mathlib.Core.List.{List, [], _∷_}
 use mathlib.Core.Bool.{Bool, true, false, not}
-use mathlib.Core.Option.{Option, some}
+use mathlib.Core.Option.{some}
 use Rattle.meaning.specs.Name.{syllables}
 use Rattle.meaning.specs.Store.{Store, Change, channel, afterAll, channelTo, isOpen, freeChannel, named}
-use Rattle.meaning.specs.Result.{Result, refused, done, unless, onChannel, withSyllables, missing, allOpen}
+use Rattle.meaning.specs.Result.{Result, done, unless, onChannel, withSyllables, missing, allOpen}
 use Rattle.meaning.specs.ChannelCalls.{read}
 use Rattle.meaning.specs.NameCalls.{open′}
 use Rattle.meaning.specs.Run.{bytesOf, changesOf}
@@ -15,7 +15,7 @@ use Rattle.meaning.specs.declared.Report.the-variants.{Ok, NoSuchCid, NoSuchNam
 use Rattle.source.specs.Naming.{NAME}
 use Rattle.source.specs.Filing.{readFS, openFS, CidErr, NameErr, ChanErr}
 use Rattle.source.specs.View.{view}
-use Rattle.source.specs.Accepted.{Ready, Accepted}
+use Rattle.source.specs.Accepted.{Accepted}
 use Rattle.source.specs.ChannelProofs.{read-holds}
 use Rattle.source.specs.OpenClose.{open-holds}
 use Rattle.source.specs.ErrorStatements.{reportOf, leftBy, ReadIs, OpenIs}

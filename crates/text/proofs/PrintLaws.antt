@@ -1,11 +1,13 @@
 -- Laws of what is printed, as the code meets them: numbers and hex one behind another, and a line's end.
-use Prim.Native.Nat.{ℕ, _+_, _*_, _≤_}
+use Prim.Native.Nat.{ℕ, _+_, _*_, _≤_, _<_}
 use mathlib.Core.Path.{_≡_, refl, _∙_}
 use mathlib.Core.Logic.{⊎-elim}
 use mathlib.Core.List.{List, [], _∷_, _++_, append-nil}
 use mathlib.Core.Bool.{true, false}
 use native.Mathlib.Omega.{arith}
-use lib.ListN.{length}
+use native.Mathlib.Numerals.{add-one}
+use lib.ListN.{length, take, getD}
+use lib.Seq.{take-suc, take-all}
 use lib.Dec.{eqb}
 use borrow.Author.Tests.{eqb-true}
 use Rattle.records.specs.Tests.{tested}
@@ -43,7 +45,29 @@ module _ (out between after : List ℕ) (at middle next n : ℕ) where
         near = omega (arith, p .ends, q .near);
       }
 
+-- ---- a row of bytes, one after another, in a form g
+
+pub each-start : (g : List ℕ → List ℕ) → g [] ≡ [] → (out : List ℕ) (at : ℕ) (bytes : List ℕ) → at ≤ length out → Lays out at (g (take 0 bytes)) out at
+each-start g nil out at bytes h = rw nil (lays-none out at h)
+
+module _ (g : List ℕ → List ℕ) (in-a-row : (xs ys : List ℕ) → g (xs ++ ys) ≡ g xs ++ g ys) where
+  pub each-more : (out₀ : List ℕ) (at : ℕ) (bytes : List ℕ) (i : ℕ) (out : List ℕ) (next : ℕ) → Lays out₀ at (g (take i bytes)) out next
+      → i < length bytes → (out′ : List ℕ) (next′ : ℕ) → Lays out next (g (getD bytes i 0 ∷ [])) out′ next′
+      → Lays out₀ at (g (take (i + 1) bytes)) out′ next′
+  each-more out₀ at bytes i out next so-far h out′ next′ l =
+      rw (add-one i, take-suc bytes i 0 h, in-a-row (take i bytes) (getD bytes i 0 ∷ []))
+      (lays-both (g (take i bytes)) (g (getD bytes i 0 ∷ [])) out₀ out out′ at next next′ so-far l)
+
+  pub each-all : (out₀ : List ℕ) (at : ℕ) (bytes : List ℕ) (i : ℕ) (out : List ℕ) (next : ℕ) → Lays out₀ at (g (take i bytes)) out next
+      → length bytes ≤ i → Lays out₀ at (g bytes) out next
+  each-all out₀ at bytes i out next so-far h = rw (take-all i bytes h) at so-far
+
 -- ---- hex
+
+pub hex-append : (xs ys : List ℕ) → hex (xs ++ ys) ≡ hex xs ++ hex ys
+unfolding hex
+hex-append [] ys = refl
+hex-append (x ∷ xs) ys = rw (hex-append xs ys)
 
 hex-length : (bytes : List ℕ) → length (hex bytes) ≡ 2 * length bytes
 unfolding hex
@@ -56,10 +80,10 @@ hex-word-length [] = omega arith
 hex-word-length (b ∷ bytes) = omega (arith, hex-length (b ∷ bytes))
 
 -- no bytes, no word
-pub no-word : (bytes out : List ℕ) (at : ℕ) → length bytes ≡ 0 → Lays out at (hexWord bytes) out at
+pub no-word : (bytes out : List ℕ) (at : ℕ) → at + 1 + 2 * length bytes ≤ length out → length bytes ≡ 0 → Lays out at (hexWord bytes) out at
 unfolding hexWord
-no-word [] out at e = lays-none out at
-no-word (b ∷ bytes) out at e = absurd (omega arith)
+no-word [] out at h e = lays-none out at (omega arith)
+no-word (b ∷ bytes) out at h e = absurd (omega arith)
 
 -- some bytes: a space, and their hex
 pub a-word : (bytes out between after : List ℕ) (at middle next : ℕ) → (length bytes ≡ 0 → ⊥) → Lays out at (space ∷ []) between middle
@@ -103,5 +127,9 @@ numbers-line a ns bytes out one two after at middle end next e p q r =
 -- numbers alone
 pub numbers-alone : (ns out one after : List ℕ) (at middle next : ℕ) → Lays out at (decimal 0 ++ spaced ns) one middle
     → Lays one middle (newline ∷ []) after next → Lays out at (printed (numbers ns) [] ++ newline ∷ []) after next
+unfolding hexWord
 numbers-alone ns out one after at middle next p r =
-    numbers-line (numbers ns) ns [] out one one after at middle middle next refl p (no-word [] one middle refl) r
+    numbers-line (numbers ns) ns [] out one one after at middle middle next refl p no-hex r
+  where
+    no-hex : Lays one middle (hexWord []) one middle
+    no-hex = lays-none one middle (p .fits)

@@ -8,16 +8,18 @@ use native.Mathlib.Omega.{arith}
 use borrow.Author.Tests.{lt-ltb, le-ltb}
 use mir.Val.{Fits}
 use mir.Syntax.{w64}
-use lib.ListN.{length, take, drop}
+use lib.ListN.{length, take, drop, length-take, length-drop, take-append-drop}
+use lib.Seq.{take-append-le, drop-append-le}
 use lib.Dec.{ltb}
 use Rattle.records.specs.Rows.{pick}
 use Rattle.records.specs.Tests.{lt-or-ge}
 use Rattle.meaning.specs.Run.{Call}
-use Rattle.text.specs.Line.{nothing, aWord, number, given, aNumber}
+use Rattle.text.specs.Line.{lentBytes, nothing, aWord, number, given, aNumber}
 use Rattle.text.specs.Commands.{part, restAt, commanded, Within, Spans, Reads}
 use Rattle.text.specs.Arguments.{argued, Placed, Argued, numbered, counted, Counts}
 use Rattle.text.specs.declared.Span.{Span}
 use Rattle.text.specs.declared.Command.{Command}
+use Rattle.text.specs.declared.Command.the-variants as C
 use Rattle.text.specs.declared.Command.the-variants.{Unknown}
 use Rattle.text.specs.declared.arguments.Argument.{Argument}
 use Rattle.text.specs.declared.arguments.Argument.the-variants as A
@@ -100,3 +102,59 @@ module _ (line : List ℕ) (at : ℕ) (n : Numeral) (c : Counts line at n) where
   pub with-number : (x next : ℕ) (k : ℕ → Option (List ℕ) → Option Call) (r : Command) → n ≡ N.Of x next
       → Reads line r (k x (restAt line next)) → Reads line r (aNumber k (restAt line at))
   with-number x next k r e behind = record { means = behind .means ∙ ap (λ y. counted line y k) (sym e) ∙ c .means k; inside = behind .inside }
+
+-- ---- a line that is the head of a longer row
+
+module _ (n : ℕ) (row : List ℕ) where
+  within-further : (s : Span) → Within (take n row) s → Within row s
+  within-further s w = record { ordered = w .ordered; ends = omega (arith, w .ends, length-take n row) }
+
+  part-further : (s : Span) → Within (take n row) s → part (take n row) s ≡ part row s
+  unfolding part
+  part-further s w =
+      let f : s .from ≤ length (take n row) = omega (arith, w .ordered, w .ends) in
+      let g : s .to - s .from ≤ length (drop (s .from) (take n row)) = simp length-drop (omega (arith, w .ends)) in
+      sym
+      (ap (λ l. take (s .to - s .from) (drop (s .from) l)) (sym (take-append-drop n row))
+      ∙ ap (take (s .to - s .from)) (drop-append-le (s .from) (take n row) (drop n row) f)
+      ∙ take-append-le (s .to - s .from) (drop (s .from) (take n row)) (drop n row) g)
+
+  same-call : (r : Command) → Spans (take n row) r → commanded (take n row) r ≡ commanded row r
+  same-call C.Unknown i = refl
+  same-call C.Prepare i = refl
+  same-call C.Room i = refl
+  same-call (C.Create s) i = ap (λ name. some (Call.Create name)) (part-further s i)
+  same-call (C.Open s) i = ap (λ name. some (Call.Open name)) (part-further s i)
+  same-call (C.Unlink s) i = ap (λ name. some (Call.Unlink name)) (part-further s i)
+  same-call (C.Mkdir s) i = ap (λ name. some (Call.Mkdir name)) (part-further s i)
+  same-call (C.Rmdir s) i = ap (λ name. some (Call.Rmdir name)) (part-further s i)
+  same-call (C.Link s t) i = rw (part-further s (i .0), part-further t (i .1))
+  same-call (C.Move s t) i = rw (part-further s (i .0), part-further t (i .1))
+  same-call (C.Ls s) i = ap (λ name. some (Call.Ls name lentBytes)) (part-further s i)
+  same-call (C.Close c) i = refl
+  same-call (C.Fstat c) i = refl
+  same-call (C.Read c count) i = refl
+  same-call (C.Write c s) i = ap (λ bytes. some (Call.Write c bytes)) (part-further s i)
+  same-call (C.Seek c mode n) i = refl
+
+  spans : (r : Command) → Spans (take n row) r → Spans row r
+  spans C.Unknown i = tt
+  spans C.Prepare i = tt
+  spans C.Room i = tt
+  spans (C.Create s) i = within-further s i
+  spans (C.Open s) i = within-further s i
+  spans (C.Unlink s) i = within-further s i
+  spans (C.Mkdir s) i = within-further s i
+  spans (C.Rmdir s) i = within-further s i
+  spans (C.Link s t) i = (within-further s (i .0), within-further t (i .1))
+  spans (C.Move s t) i = (within-further s (i .0), within-further t (i .1))
+  spans (C.Ls s) i = within-further s i
+  spans (C.Close c) i = tt
+  spans (C.Fstat c) i = tt
+  spans (C.Read c count) i = tt
+  spans (C.Write c s) i = within-further s i
+  spans (C.Seek c mode n) i = tt
+
+  -- what is read off the head is read off the row
+  pub reads-further : (r : Command) (call : Option Call) → Reads (take n row) r call → Reads row r call
+  reads-further r call a = record { means = sym (same-call r (a .inside)) ∙ a .means; inside = spans r (a .inside) }

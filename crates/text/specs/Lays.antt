@@ -1,4 +1,4 @@
--- Bytes laid into a lent buffer from a place on, all others as they were, and the place behind them.
+-- Bytes laid into a lent buffer from a place on, all others as they were, and the place behind them, which is still within.
 use Prim.Native.Nat.{ℕ, _+_, _≤_}
 use mathlib.Core.Path.{_≡_}
 use mathlib.Core.List.{List}
@@ -8,6 +8,7 @@ use lib.Seq.{sets}
 pub record Lays (out : List ℕ) (at : ℕ) (bytes : List ℕ) (after : List ℕ) (next : ℕ) : Type 0 where
   pub lies : after ≡ sets out at bytes
   pub ends : next ≡ at + length bytes
+  pub fits : next ≤ length after
 
 -- the same, of so many bytes at most
 pub record LaysAtMost (most : ℕ) (out : List ℕ) (at : ℕ) (bytes : List ℕ) (after : List ℕ) (next : ℕ) : Type 0 where

@@ -15,6 +15,7 @@ lays-both xs ys out between after at middle next p q =
     record {
       lies = rw (q .lies, p .lies) (sets-append xs ys out at middle (p .ends));
       ends = rw (length-append xs ys) (omega (arith, p .ends, q .ends));
+      fits = q .fits;
     }
 
 -- the same bytes under another name
@@ -22,20 +23,24 @@ pub lays-as : (xs ys out after : List ℕ) (at next : ℕ) → xs ≡ ys → Lay
 lays-as xs ys out after at next e p = rw e at p
 
 -- nothing
-pub lays-none : (out : List ℕ) (at : ℕ) → Lays out at [] out at
-lays-none out at = record { lies = refl; ends = omega arith }
+pub lays-none : (out : List ℕ) (at : ℕ) → at ≤ length out → Lays out at [] out at
+lays-none out at h = record { lies = refl; ends = omega arith; fits = h }
 
--- what stands in the buffer afterwards, where there is room
-module _ (out : List ℕ) (at : ℕ) (bytes after : List ℕ) (next : ℕ) (l : Lays out at bytes after next) (fits : at + length bytes ≤ length out) where
+-- what stands in the buffer afterwards
+module _ (out : List ℕ) (at : ℕ) (bytes after : List ℕ) (next : ℕ) (l : Lays out at bytes after next) where
+  pub laid-length : length after ≡ length out
+  laid-length = ap length (l .lies) ∙ length-sets out at bytes
+
+  room : at + length bytes ≤ length out
+  room = omega (arith, l .ends, l .fits, laid-length)
+
   pub laid-out : after ≡ take at out ++ bytes ++ drop next out
-  laid-out = l .lies ∙ sets-eq bytes out at fits ∙ rw (← l .ends)
+  laid-out = l .lies ∙ sets-eq bytes out at room ∙ rw (← l .ends)
 
   -- all up to the next place: what was there before, and the bytes
   pub laid-up-to : take next after ≡ take at out ++ bytes
   laid-up-to =
+      let r = room in
       let h : length (take at out) ≡ at = length-take-le at out (omega arith) in
       let e : length (take at out ++ bytes) ≡ next = length-append (take at out) bytes ∙ omega (arith, h, l .ends) in
       rw laid-out (take-at (take at out ++ bytes) (drop next out) next e)
-
-  pub laid-length : length after ≡ length out
-  laid-length = ap length (l .lies) ∙ length-sets out at bytes

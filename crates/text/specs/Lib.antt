@@ -3,7 +3,11 @@ pub mod Print
 pub mod Program
 pub mod Examples
 pub mod Commands
+pub mod CommandLaws
 pub mod Words
 pub mod Arguments
 pub mod Lays
 pub mod LaysLaws
+pub mod Gathering
+pub mod GatheringLaws
+pub mod Cuts

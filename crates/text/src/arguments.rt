@@ -49,13 +49,13 @@ pub fn number_of(word: &[u8]) -> Number
     let mut i = 0;
     while i < word.len() {
         let b = word[i];
-        if b < 48 {
+        if b < b'0' {
             return Number::Bad;
         }
-        if 57 < b {
+        if b'9' < b {
             return Number::Bad;
         }
-        value = 10 * value + (b - 48) as u64;
+        value = 10 * value + (b - b'0') as u64;
         if 4294967295 < value {
             return Number::Bad;
         }
@@ -99,7 +99,7 @@ pub fn ended(line: &[u8], at: usize, command: Command) -> Command
     }
 }
 
-// The command of a word with one name.
+// The command of a word and its name.
 fn name_command(word: NameWord, name: Span) -> Command
     ensures { λ r. ⌜ r ≡ nameCommand word name ⌝ }
 {
@@ -113,6 +113,7 @@ fn name_command(word: NameWord, name: Span) -> Command
     }
 }
 
+// A word with one name, and nothing behind it.
 pub fn one_name(line: &[u8], at: usize, word: NameWord) -> Command
     ensures { λ r. ⌜ Reads (now (line .entry)) r (aName (nameCall word) (restAt (now (line .entry)) at)) ⌝ }
 {
@@ -126,7 +127,7 @@ pub fn one_name(line: &[u8], at: usize, word: NameWord) -> Command
     }
 }
 
-// The command of a word with two names.
+// The command of a word and its two names.
 fn pair_command(word: PairWord, old: Span, new: Span) -> Command
     ensures { λ r. ⌜ r ≡ pairCommand word old new ⌝ }
 {
@@ -136,6 +137,7 @@ fn pair_command(word: PairWord, old: Span, new: Span) -> Command
     }
 }
 
+// A word with two names.
 pub fn two_names(line: &[u8], at: usize, word: PairWord) -> Command
     ensures { λ r. ⌜ Reads (now (line .entry)) r (twoNames (pairCall word) (restAt (now (line .entry)) at)) ⌝ }
 {
@@ -152,7 +154,7 @@ pub fn two_names(line: &[u8], at: usize, word: PairWord) -> Command
     ended(line, end + 1, pair_command(word, old, new))
 }
 
-// The command of a word with one number.
+// The command of a word and its number.
 fn number_command(word: NumberWord, n: u32) -> Command
     ensures { λ r. ⌜ r ≡ numberCommand word n ⌝ }
 {
@@ -162,6 +164,7 @@ fn number_command(word: NumberWord, n: u32) -> Command
     }
 }
 
+// A word with one number.
 pub fn one_number(line: &[u8], at: usize, word: NumberWord) -> Command
     ensures { λ r. ⌜ Reads (now (line .entry)) r (lastNumber (numberCall word) (restAt (now (line .entry)) at)) ⌝ }
 {

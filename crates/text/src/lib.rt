@@ -1,5 +1,6 @@
 // A line of text to a call, an answer to a line. Definitions are in specs/.
 mod arguments;
+pub mod lines;
 pub mod print;
 mod search;
 mod words;

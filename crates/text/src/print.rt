@@ -17,6 +17,7 @@ ghost use Rattle.text.specs.Lays.{Lays, LaysAtMost, shortLine};
 
 // ---- bytes, numbers, hex
 
+// One byte.
 pub fn put_byte(out: &mut [u8], at: usize, b: u8) -> usize
     requires { ⌜ at < length (now out) ⌝ }
     ensures { λ r. ⌜ Lays (now (out .entry)) at (b ∷ []) (now (out .exit)) r ⌝ }
@@ -25,12 +26,26 @@ pub fn put_byte(out: &mut [u8], at: usize, b: u8) -> usize
     at + 1
 }
 
+// Bytes as they are.
+pub fn put_bytes(out: &mut [u8], at: usize, bytes: &[u8]) -> usize
+    requires { ⌜ at + length (now bytes) ≤ length (now out) ⌝ }
+    ensures { λ r. ⌜ Lays (now (out .entry)) at (now (bytes .entry)) (now (out .exit)) r ⌝ }
+{
+    let mut next = at;
+    let mut i = 0;
+    while i < bytes.len() {
+        next = put_byte(out, next, bytes[i]);
+        i += 1;
+    }
+    next
+}
+
 // A number in decimal: the digits before its last one, and that digit.
 pub fn put_decimal(out: &mut [u8], at: usize, n: u32) -> usize
     requires { ⌜ at + 10 ≤ length (now out) ⌝ }
     ensures { λ r. ⌜ LaysAtMost 10 (now (out .entry)) at (decimal n) (now (out .exit)) r ⌝ }
 {
-    let low = 48 + (n % 10) as u8;
+    let low = b'0' + (n % 10) as u8;
     if n < 10 {
         return put_byte(out, at, low);
     }
@@ -55,6 +70,7 @@ fn hex_digit(n: u8) -> u8
     if n < 10 { 48 + n } else { 87 + n }
 }
 
+// A byte in hex: two digits.
 fn put_hex_byte(out: &mut [u8], at: usize, b: u8) -> usize
     requires { ⌜ at + 2 ≤ length (now out) ⌝ }
     ensures { λ r. ⌜ Lays (now (out .entry)) at (hex (b ∷ [])) (now (out .exit)) r ⌝ }
@@ -63,6 +79,7 @@ fn put_hex_byte(out: &mut [u8], at: usize, b: u8) -> usize
     put_byte(out, next, hex_digit(b % 16))
 }
 
+// Bytes in hex.
 pub fn put_hex(out: &mut [u8], at: usize, bytes: &[u8]) -> usize
     requires { ⌜ at + 2 * length (now bytes) ≤ length (now out) ⌝ }
     ensures { λ r. ⌜ Lays (now (out .entry)) at (hex (now (bytes .entry))) (now (out .exit)) r ⌝ }
@@ -169,6 +186,7 @@ fn print_three(out: &mut [u8], at: usize, a: u32, b: u32, c: u32) -> usize
     put_byte(out, end, b'\n')
 }
 
+// A count, and bytes in hex.
 pub fn print_counted(out: &mut [u8], at: usize, answer: Counted, bytes: &[u8]) -> usize
     requires { ⌜ at + shortLine + 2 * length (now bytes) ≤ length (now out) ⌝ }
     ensures { λ r. ⌜ Lays (now (out .entry)) at (printed (counted answer) (now (bytes .entry)) ++ newline ∷ []) (now (out .exit)) r ⌝ }
@@ -183,6 +201,7 @@ pub fn print_counted(out: &mut [u8], at: usize, answer: Counted, bytes: &[u8]) -
     }
 }
 
+// A channel.
 pub fn print_opened(out: &mut [u8], at: usize, answer: Opened) -> usize
     requires { ⌜ at + shortLine ≤ length (now out) ⌝ }
     ensures { λ r. ⌜ Lays (now (out .entry)) at (printed (opened answer) [] ++ newline ∷ []) (now (out .exit)) r ⌝ }
@@ -193,6 +212,7 @@ pub fn print_opened(out: &mut [u8], at: usize, answer: Opened) -> usize
     }
 }
 
+// A position.
 pub fn print_sought(out: &mut [u8], at: usize, answer: Sought) -> usize
     requires { ⌜ at + shortLine ≤ length (now out) ⌝ }
     ensures { λ r. ⌜ Lays (now (out .entry)) at (printed (sought answer) [] ++ newline ∷ []) (now (out .exit)) r ⌝ }
@@ -203,6 +223,7 @@ pub fn print_sought(out: &mut [u8], at: usize, answer: Sought) -> usize
     }
 }
 
+// Length, file number, kind.
 pub fn print_stat(out: &mut [u8], at: usize, answer: Stat) -> usize
     requires { ⌜ at + shortLine ≤ length (now out) ⌝ }
     ensures { λ r. ⌜ Lays (now (out .entry)) at (printed (statOf answer) [] ++ newline ∷ []) (now (out .exit)) r ⌝ }
@@ -216,6 +237,7 @@ pub fn print_stat(out: &mut [u8], at: usize, answer: Stat) -> usize
     }
 }
 
+// Free blocks, free file numbers, free channels.
 pub fn print_space(out: &mut [u8], at: usize, answer: Space) -> usize
     requires { ⌜ at + shortLine ≤ length (now out) ⌝ }
     ensures { λ r. ⌜ Lays (now (out .entry)) at (printed (spaceOf answer) [] ++ newline ∷ []) (now (out .exit)) r ⌝ }

@@ -1,14 +1,12 @@
 -- A store in which one file changes, and one in which one channel does: what stays.
-use Prim.Native.Nat.{ℕ, suc, _+_, _≤_, _<_}
-use mathlib.Core.Path.{_≡_, refl, ap, sym, _∙_, fun-ext}
+use Prim.Native.Nat.{ℕ}
+use mathlib.Core.Path.{_≡_, refl, sym, _∙_, fun-ext}
 use mathlib.Core.Logic.{_≢_, ⊎-elim}
-use mathlib.Core.Bool.{Bool, true, false, not, _&&_}
-use lib.Dec.{leb, ltb, eqb}
+use lib.Dec.{eqb}
 use borrow.Author.Tests.{eq-eqb, ne-eqb}
-use Rattle.records.specs.Rows.{pick, howMany}
-use Rattle.records.specs.RowLaws.{howMany-cong}
+use Rattle.records.specs.Rows.{pick}
 use Rattle.records.specs.Tests.{same-or-not}
-use Rattle.meaning.specs.Store.{Store, File, Channel, Change, file, channel, after, inUse, isDirectory, held}
+use Rattle.meaning.specs.Store.{Store, File, Channel, file, channel, after, inUse, isDirectory, held}
 
 module _ (s : Store) (f : ℕ) (x : File) where
   pub file-changed : after s (file f x) .file f ≡ x

@@ -1,11 +1,11 @@
 -- A directory lies as deep as its name has syllables.
-use Prim.Native.Nat.{ℕ, suc, _+_, _≤_, _<_}
-use mathlib.Core.Path.{_≡_, ap, sym, _∙_}
+use Prim.Native.Nat.{ℕ, _+_, _<_}
+use mathlib.Core.Path.{_≡_, _∙_}
 use mathlib.Core.List.{List, [], _∷_, reverse}
 use mathlib.Core.Bool.{true}
 use native.Mathlib.Omega.{arith}
 use lib.ListN.{length, length-reverse}
-use Rattle.meaning.specs.Name.{recordCount, entryAt, recordNamed, inDirectory}
+use Rattle.meaning.specs.Name.{recordCount, entryAt, recordNamed}
 use Rattle.meaning.specs.Store.{Store, isDirectory, within, namedBack, named}
 use Rattle.soundness.specs.Use.{directory-used}
 use Rattle.soundness.specs.Well.{Well}

@@ -1,26 +1,26 @@
 -- The records of one directory of a well-formed store: a blank one has no name, a name has at most one record.
-use Prim.Native.Nat.{ℕ, suc, _+_, _*_, _≤_, _<_}
-use mathlib.Core.Path.{_≡_, refl, ap, sym, _∙_}
+use Prim.Native.Nat.{ℕ, _+_, _*_, _≤_, _<_}
+use mathlib.Core.Path.{_≡_, ap, sym, _∙_}
 use mathlib.Core.Logic.{_≢_, ⊎-elim}
 use mathlib.Core.List.{List, []}
-use mathlib.Core.Bool.{Bool, true, false, true≢false}
+use mathlib.Core.Bool.{true, false, true≢false}
 use native.Mathlib.Omega.{arith}
 use lib.ListN.{length, take, drop}
 use lib.Dec.{eqb}
 use borrow.Author.Tests.{eq-eqb}
 use Rattle.records.specs.Numbers.{one, zeros}
 use Rattle.records.specs.NumberLaws.{zeros-zero, zero-zeros}
-use Rattle.records.specs.Tests.{tested, and-left, same-or-not, lt-or-ge}
+use Rattle.records.specs.Tests.{and-left, lt-or-ge}
 use Rattle.meaning.specs.FileLaws.{byte-past}
-use Rattle.meaning.specs.Name.{Entry, same, isSyllable, isWritten, nameEnd, entryIn, recordCount, recordAt, isBlank, entryAt, recordNamed, inDirectory}
-use Rattle.meaning.specs.Store.{Store, root, inUse, isDirectory}
-use Rattle.names.specs.ByteLaws.{lowest-is, same-is, is-same, not-false-true}
+use Rattle.meaning.specs.Name.{isSyllable, isWritten, nameEnd, entryIn, recordCount, recordAt, isBlank, entryAt, recordNamed, inDirectory}
+use Rattle.meaning.specs.Store.{Store, isDirectory}
+use Rattle.names.specs.ByteLaws.{lowest-is, is-same, not-false-true}
 use Rattle.names.specs.SyllableTests.{syllable-some}
 use Rattle.directories.specs.EntryLaws.{byte-record}
 use Rattle.soundness.specs.Use.{used}
 use Rattle.soundness.specs.Well.{NamingRecord, Well}
-use Rattle.soundness.specs.WellFacts.{blank-file, naming-record}
-use Rattle.trees.specs.Records.{named-within, named-has, named-first, in-found}
+use Rattle.soundness.specs.WellFacts.{naming-record}
+use Rattle.trees.specs.Records.{named-has, in-found}
 
 -- a blank record has no name
 pub blank-name : (dir : List ℕ) (i : ℕ) → isBlank dir i ≡ true → entryAt dir i .name ≡ []

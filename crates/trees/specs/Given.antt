@@ -1,15 +1,15 @@
 -- What names stand for where a name is given to a file, or taken: that name, and every other.
-use Prim.Native.Nat.{ℕ, suc, _+_, _≤_, _<_}
+use Prim.Native.Nat.{ℕ, _<_}
 use mathlib.Core.Path.{_≡_, refl, ap, sym, _∙_}
 use mathlib.Core.Logic.{_≢_, ⊎-elim}
-use mathlib.Core.List.{List, []}
-use mathlib.Core.Bool.{Bool, true, false, true≢false}
+use mathlib.Core.List.{List}
+use mathlib.Core.Bool.{true, false, true≢false}
 use native.Mathlib.Omega.{arith}
 use lib.ListN.{length}
 use Rattle.records.specs.Tests.{tested, same-or-not}
 use Rattle.meaning.specs.Name.{Entry, entry, same, isSyllable, written, entryIn, blankRecord, recordCount, entryAt, recordNamed, inDirectory}
 use Rattle.meaning.specs.Store.{Store, isDirectory, named, last}
-use Rattle.meaning.specs.NameCalls.{parent, recordFor, rewritten, naming, unnaming}
+use Rattle.meaning.specs.NameCalls.{parent, recordFor, naming, unnaming}
 use Rattle.names.specs.ByteLaws.{same-is, is-same}
 use Rattle.soundness.specs.Well.{Well}
 use Rattle.trees.specs.Records.{named-has, in-found, in-some}

@@ -1,16 +1,15 @@
 -- The store that link leaves: the old name stands for its file as before, so a move's unlink finds it.
 use Prim.Native.Nat.{ℕ, _<_}
-use mathlib.Core.Path.{_≡_, refl, ap, sym, _∙_}
+use mathlib.Core.Path.{_≡_, refl, sym, _∙_}
 use mathlib.Core.Logic.{_≢_}
 use mathlib.Core.List.{List, _∷_}
-use mathlib.Core.Bool.{Bool, true, false}
+use mathlib.Core.Bool.{false}
 use lib.ListN.{length}
-use lib.Dec.{eqb}
 use borrow.Author.Tests.{ne-eqb}
 use Rattle.meaning.specs.Name.{entry, written}
 use Rattle.meaning.specs.Store.{Store, file, afterAll, isDirectory, named, letGo, last}
 use Rattle.meaning.specs.Result.{missing}
-use Rattle.meaning.specs.NameCalls.{parent, recordFor, rewritten, naming}
+use Rattle.meaning.specs.NameCalls.{parent, recordFor, naming}
 use Rattle.trees.specs.Rewrite.{directory-same}
 use Rattle.trees.specs.Standing.{Place}
 use Rattle.trees.specs.Naming.{withName, naming-rewrites}

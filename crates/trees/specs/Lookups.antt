@@ -1,21 +1,19 @@
 -- What names stand for where one record of one directory changes; where no directory changes; and how deep a directory lies.
-use Prim.Native.Nat.{ℕ, suc, _+_, _-_, _*_, _≤_, _<_}
+use Prim.Native.Nat.{ℕ, _-_, _<_}
 use mathlib.Core.Path.{_≡_, refl, ap, sym, _∙_}
 use mathlib.Core.Logic.{_≢_, ⊎-elim}
 use mathlib.Core.List.{List, [], _∷_, reverse}
 use mathlib.Core.Bool.{Bool, true, false, true≢false}
 use native.Mathlib.Omega.{arith}
-use lib.ListN.{length, length-reverse}
-use Rattle.records.specs.Rows.{pick}
+use lib.ListN.{length}
 use Rattle.records.specs.Tests.{same-or-not}
-use Rattle.meaning.specs.Name.{Entry, isSyllable, entryIn, recordCount, isBlank, entryAt, recordNamed, inDirectory, withEntry}
-use Rattle.meaning.specs.Store.{Store, File, root, inUse, isDirectory, within, namedBack, named, front, last}
-use Rattle.meaning.specs.NameCalls.{parent, rewritten}
+use Rattle.meaning.specs.Name.{entryIn, recordCount, isBlank, entryAt, recordNamed, inDirectory, withEntry}
+use Rattle.meaning.specs.Store.{Store, isDirectory, within, namedBack, named, front, last}
+use Rattle.meaning.specs.NameCalls.{parent}
 use Rattle.names.specs.ByteLaws.{not-false-true}
 use Rattle.lookup.specs.Walk.{named-last}
 use Rattle.soundness.specs.Use.{directory-used}
-use Rattle.soundness.specs.Well.{Well}
-use Rattle.soundness.specs.WellFacts.{blank-file, root-depth}
+use Rattle.soundness.specs.WellFacts.{blank-file}
 use Rattle.trees.specs.Records.{named-has, in-found, in-some, in-own, in-kept, in-gone}
 use Rattle.trees.specs.Rewrite.{Rewriting, withRecord, own-bytes, other-file, directory-same}
 

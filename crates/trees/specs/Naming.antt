@@ -1,26 +1,26 @@
 -- A name's record written with a file, or blanked: who is named how often then, and what names stand for.
-use Prim.Native.Nat.{ℕ, suc, _+_, _-_, _*_, _≤_, _<_}
+use Prim.Native.Nat.{ℕ, suc, _+_, _-_, _≤_, _<_}
 use mathlib.Core.Path.{_≡_, refl, ap, sym, _∙_}
-use mathlib.Core.Logic.{_≢_, ⊎-elim}
-use mathlib.Core.List.{List, [], _++_}
-use mathlib.Core.Bool.{Bool, true, false}
+use mathlib.Core.Logic.{_≢_}
+use mathlib.Core.List.{List, []}
+use mathlib.Core.Bool.{true, false}
 use native.Mathlib.Omega.{arith}
-use lib.ListN.{length, getD, replicate, length-replicate, List·getD-eq-default}
+use lib.ListN.{length, getD, List·getD-eq-default}
 use lib.Dec.{eqb}
-use borrow.Author.Tests.{eq-eqb, ne-eqb}
+use borrow.Author.Tests.{ne-eqb}
 use Rattle.records.specs.Rows.{tally, lowest, lowestFrom}
 use Rattle.records.specs.Numbers.{one, two, twoBytes, zeros}
 use Rattle.records.specs.NumberLaws.{zero-zeros}
-use Rattle.records.specs.Tests.{same-or-not, and-both}
-use Rattle.meaning.specs.Name.{Entry, entry, isSyllable, written, nameEnd, entryIn, isWritten, blankRecord, recordCount, isBlank, entryAt, recordNamed}
+use Rattle.records.specs.Tests.{and-both}
+use Rattle.meaning.specs.Name.{Entry, entry, isSyllable, written, nameEnd, entryIn, isWritten, blankRecord, entryAt}
 use Rattle.meaning.specs.Store.{Store, file, after, isDirectory, named, names, last}
-use Rattle.meaning.specs.NameCalls.{parent, recordFor, rewritten, naming, unnaming}
+use Rattle.meaning.specs.NameCalls.{parent, recordFor, naming, unnaming}
 use Rattle.names.specs.RecordLaws.{one-padded, length-written, nameEnd-written, read-written}
 use Rattle.soundness.specs.Well.{Well}
 use Rattle.soundness.specs.WellFacts.{naming-record}
 use Rattle.trees.specs.Rewrite.{Rewriting, withRecord, names-after}
 use Rattle.trees.specs.Entries.{not-empty, naming-syllable}
-use Rattle.trees.specs.Standing.{Place, Standing}
+use Rattle.trees.specs.Standing.{Place}
 use Rattle.trees.specs.Lookups.{KeepsDirectories}
 
 -- ---- the two records that calls write

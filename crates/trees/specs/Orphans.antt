@@ -1,9 +1,9 @@
 -- Whether a file is let go, read off the store before the change: by unlink, by link and by close.
-use Prim.Native.Nat.{ℕ, _+_, _≤_, _<_}
-use mathlib.Core.Path.{_≡_, refl, ap, ap₂, sym, _∙_}
+use Prim.Native.Nat.{ℕ, _+_, _<_}
+use mathlib.Core.Path.{_≡_, refl, ap, sym, _∙_}
 use mathlib.Core.Logic.{_≢_, ⊎-elim}
 use mathlib.Core.List.{List}
-use mathlib.Core.Bool.{Bool, true, false, not, _&&_}
+use mathlib.Core.Bool.{Bool, false, not, _&&_}
 use native.Mathlib.Omega.{arith}
 use lib.Dec.{ltb, eqb}
 use borrow.Author.Tests.{eq-eqb, ne-eqb, lt-ltb, le-ltb}
@@ -11,14 +11,14 @@ use Rattle.records.specs.Rows.{tally, howMany}
 use Rattle.records.specs.RowLaws.{howMany-update}
 use Rattle.records.specs.Tests.{same-or-not}
 use Rattle.meaning.specs.Name.{entry, written, blankRecord}
-use Rattle.meaning.specs.Store.{Store, Channel, channel, after, noChannel, inUse, isDirectory, isOpen, named, names, held, isOrphan, last}
-use Rattle.meaning.specs.NameCalls.{parent, recordFor, rewritten, naming, unnaming}
-use Rattle.soundness.specs.Use.{Used, used}
+use Rattle.meaning.specs.Store.{Store, Channel, channel, after, noChannel, inUse, isDirectory, named, names, held, isOrphan, last}
+use Rattle.meaning.specs.NameCalls.{parent, recordFor, naming, unnaming}
+use Rattle.soundness.specs.Use.{used}
 use Rattle.soundness.specs.Well.{Well}
 use Rattle.soundness.specs.WellFacts.{ordinary-form}
 use Rattle.trees.specs.AfterFile.{channel-changed, channel-other}
 use Rattle.trees.specs.Rewrite.{Rewriting, withRecord, kind-same, use-same, held-same}
-use Rattle.trees.specs.Standing.{Place, Standing}
+use Rattle.trees.specs.Standing.{Standing}
 use Rattle.trees.specs.Naming.{withName, withoutName, naming-rewrites, unnaming-rewrites, names-named, names-unnamed}
 
 -- two numbers one apart

@@ -1,14 +1,12 @@
 -- The record of a name in a directory of which one record is written anew or added.
-use Prim.Native.Nat.{ℕ, suc, _+_, _-_, _*_, _/_, _≤_, _<_, max}
-use mathlib.Core.Path.{_≡_, refl, ap, sym, _∙_}
+use Prim.Native.Nat.{ℕ, _-_, _*_, _≤_, _<_}
+use mathlib.Core.Path.{_≡_, ap, sym, _∙_}
 use mathlib.Core.Logic.{_≢_, ⊎-elim}
 use mathlib.Core.List.{List}
-use mathlib.Core.Bool.{Bool, true, false, not, true≢false}
+use mathlib.Core.Bool.{false, not, true≢false}
 use native.Mathlib.Omega.{arith}
 use lib.ListN.{length}
-use lib.Dec.{ltb}
-use borrow.Author.Tests.{lt-ltb, le-ltb, ltb-true}
-use Rattle.records.specs.Rows.{pick, lowest}
+use borrow.Author.Tests.{lt-ltb, le-ltb}
 use Rattle.records.specs.RowLaws.{lowest-hit, lowest-misses, lowest-within}
 use Rattle.records.specs.Tests.{same-or-not, lt-or-ge}
 use Rattle.meaning.specs.Name.{Entry, same, entryIn, recordCount, entryAt, recordNamed, inDirectory, withEntry}

@@ -1,5 +1,5 @@
 -- A store in which one record of one directory is written anew, added or blanked: what stays, and who is named how often.
-use Prim.Native.Nat.{ℕ, zero, suc, _+_, _-_, _*_, _/_, _≤_, _<_}
+use Prim.Native.Nat.{ℕ, suc, _+_, _-_, _*_, _≤_}
 use mathlib.Core.Path.{_≡_, refl, ap, sym, _∙_}
 use mathlib.Core.Logic.{_≢_, ⊎-elim}
 use mathlib.Core.List.{List}
@@ -11,9 +11,9 @@ use Rattle.records.specs.Rows.{pick, tally, sum}
 use Rattle.records.specs.RowLaws.{sum-cong, sum-update}
 use Rattle.records.specs.Tests.{same-or-not}
 use Rattle.meaning.specs.Name.{recordCount, entryIn, entryAt, namesIn, withEntry}
-use Rattle.meaning.specs.Store.{Store, File, Change, file, after, inUse, isDirectory, held, names}
+use Rattle.meaning.specs.Store.{Store, File, file, after, inUse, isDirectory, held, names}
 use Rattle.meaning.specs.NameCalls.{rewritten}
-use Rattle.soundness.specs.Use.{Used, directory-used, directory-kind}
+use Rattle.soundness.specs.Use.{directory-used, directory-kind}
 use Rattle.soundness.specs.Well.{Well}
 use Rattle.soundness.specs.WellFacts.{directory-length}
 use Rattle.directories.specs.CountLaws.{names-with}

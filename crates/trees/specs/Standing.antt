@@ -1,28 +1,25 @@
 -- A name that stands for a file, and a new name whose directory is there: its directory, and where its record is or goes.
-use Prim.Native.Nat.{ℕ, suc, _+_, _-_, _*_, _≤_, _<_}
-use mathlib.Core.Path.{_≡_, refl, ap, sym, _∙_}
+use Prim.Native.Nat.{ℕ, _-_, _*_, _≤_, _<_}
+use mathlib.Core.Path.{_≡_, refl, sym, _∙_}
 use mathlib.Core.Logic.{_≢_, ⊎-elim}
 use mathlib.Core.List.{List, [], _∷_}
-use mathlib.Core.Bool.{Bool, true, false, not, _&&_, true≢false}
+use mathlib.Core.Bool.{Bool, true, false, true≢false}
 use mathlib.Core.Option.{some}
 use native.Mathlib.Omega.{arith}
-use lib.ListN.{length, getD}
-use lib.Dec.{eqb}
-use borrow.Author.Tests.{eqb-true, eqb-false, not-true}
-use Rattle.records.specs.Rows.{pick}
+use lib.ListN.{length}
+use borrow.Author.Tests.{eqb-true, eqb-false}
 use Rattle.records.specs.RowLaws.{lowest-within, lowest-hit}
-use Rattle.records.specs.Numbers.{zeros}
-use Rattle.records.specs.Tests.{tested, same-or-not, lt-or-ge}
-use Rattle.meaning.specs.Name.{Entry, same, isSyllable, syllables, recordCount, isBlank, entryAt, recordNamed, recordForNew, inDirectory}
+use Rattle.records.specs.Tests.{lt-or-ge}
+use Rattle.meaning.specs.Name.{isSyllable, syllables, recordCount, isBlank, entryAt, recordNamed, recordForNew, inDirectory}
 use Rattle.meaning.specs.Store.{Store, root, inUse, isDirectory, within, namedBack, named, front, last}
 use Rattle.meaning.specs.Result.{missing, nowhere}
 use Rattle.meaning.specs.NameCalls.{parent, recordFor}
 use Rattle.names.specs.ByteLaws.{is-same}
 use Rattle.names.specs.ReadLaws.{read}
 use Rattle.lookup.specs.Walk.{named-last}
-use Rattle.soundness.specs.Well.{NamingRecord, Well}
+use Rattle.soundness.specs.Well.{Well}
 use Rattle.soundness.specs.WellFacts.{blank-file, directory-length}
-use Rattle.trees.specs.Records.{named-within, named-has, named-first, in-found, in-some}
+use Rattle.trees.specs.Records.{named-has, named-first, in-found, in-some}
 use Rattle.trees.specs.Entries.{not-blank, only, found-record, no-record, past-blank}
 
 -- ---- a name in its directory

@@ -1,7 +1,7 @@
 use Prim.Native.Nat.{ℕ, suc, _+_, _*_, _/_, _<_}
-use mathlib.Core.Path.{_≡_, refl, sym, _∙_}
+use mathlib.Core.Path.{_≡_, refl, _∙_}
 use mathlib.Core.List.{List}
-use mathlib.Core.Bool.{Bool, true, false}
+use mathlib.Core.Bool.{true}
 use borrow.Author.Tests.{eq-eqb, ne-eqb}
 use Rattle.records.specs.Numbers.{one, four}
 use Rattle.meaning.specs.Store.{isDirectory}

@@ -1,6 +1,6 @@
 -- Every file passed has the names or the channel that it needs; the measure is how many files are left.
-use Prim.Native.Nat.{ℕ, suc, _+_, _-_, _/_, _≤_}
-use mathlib.Core.Path.{_≡_, refl, sym, ap, _∙_}
+use Prim.Native.Nat.{ℕ, _+_, _-_, _/_, _≤_}
+use mathlib.Core.Path.{_≡_, refl, _∙_}
 use mathlib.Core.List.{List}
 use mathlib.Core.Bool.{Bool, true}
 use native.Mathlib.Numerals.{add-one}

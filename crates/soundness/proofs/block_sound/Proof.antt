@@ -1,6 +1,6 @@
 use Prim.Native.Nat.{ℕ, _+_, _-_, _*_, _/_, _<_}
 use mathlib.Core.Path.{_≡_, refl, sym, _∙_}
-use mathlib.Core.List.{List, []}
+use mathlib.Core.List.{List}
 use mathlib.Core.Bool.{Bool, true, false, not, _&&_, _||_, or-false}
 use native.Mathlib.Omega.{arith}
 use borrow.Author.Tests.{ne-eqb, not-true, not-false}
@@ -12,7 +12,7 @@ use Rattle.meaning.specs.Store.{inUse}
 use Rattle.meaning.specs.Tables.{storeOf, owner, place, holds, lengthAt, fileLength}
 use Rattle.meaning.specs.Sound.{blockSound}
 use Rattle.tables.specs.StoreLaws.{file-length}
-use Rattle.soundness.specs.Use.{Used, used, none-unused}
+use Rattle.soundness.specs.Use.{used, none-unused}
 use Rattle.soundness.specs.Seen.{filesStore, recordTables, inUse-seen}
 use borrow.Author.Needs.{needs}
 use Rattle.soundness.proofs.block_sound.Statement.{statement}

@@ -1,10 +1,8 @@
 use Prim.Native.Nat.{ℕ, _≤_, _<_}
 use mathlib.Core.Path.{_≡_, refl}
-use mathlib.Core.Bool.{Bool, false}
 use borrow.Author.Tests.{le-leb, lt-leb}
 use lib.Dec.{leb}
 use Rattle.soundness.specs.Rules.{countsTo}
-use borrow.Author.Needs.{needs}
 use Rattle.soundness.proofs.counts_to.Statement.{statement}
 use Rattle.soundness.proofs.counts_to.Tie as tie
 

@@ -1,7 +1,7 @@
 -- Every directory passed is sound; the measure is how many file records are left.
-use Prim.Native.Nat.{ℕ, suc, _+_, _-_, _*_, _/_, _≤_}
-use mathlib.Core.Path.{_≡_, refl, sym, _∙_}
-use mathlib.Core.List.{List, []}
+use Prim.Native.Nat.{ℕ, suc, _-_, _/_, _≤_}
+use mathlib.Core.Path.{_≡_, refl, _∙_}
+use mathlib.Core.List.{List}
 use mathlib.Core.Bool.{Bool, true}
 use lib.ListN.{length}
 use Rattle.records.specs.Rows.{every}

@@ -7,7 +7,6 @@ use Rattle.records.specs.Rows.{agree}
 use Rattle.records.specs.Tests.{and-false}
 use Rattle.meaning.specs.File.{longest}
 use Rattle.soundness.specs.Rules.{directoryForm}
-use borrow.Author.Needs.{needs}
 use Rattle.soundness.proofs.directory_form.Statement.{statement}
 use Rattle.soundness.proofs.directory_form.Tie as tie
 

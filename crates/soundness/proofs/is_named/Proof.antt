@@ -1,10 +1,10 @@
 use Prim.Native.Nat.{ℕ, _≤_, _<_}
-use mathlib.Core.Path.{_≡_, refl, sym, ap, _∙_}
+use mathlib.Core.Path.{_≡_, refl, sym, _∙_}
 use mathlib.Core.List.{List, []}
 use mathlib.Core.Bool.{Bool, true, false, not, _&&_, _||_, or-true, or-false}
 use borrow.Author.Tests.{lt-ltb, le-ltb, eq-eqb, ne-eqb, not-true, not-false}
 use lib.Dec.{ltb, eqb}
-use Rattle.meaning.specs.Store.{inUse, isDirectory, held}
+use Rattle.meaning.specs.Store.{inUse, isDirectory}
 use Rattle.meaning.specs.Tables.{tables}
 use Rattle.tables.specs.Searches.{channelsWith}
 use Rattle.tables.specs.StoreLaws.{held-channels}

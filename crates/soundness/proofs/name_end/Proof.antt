@@ -1,14 +1,11 @@
 -- No byte passed is zero: what is left of the search gives what the whole gives. The measure is how many bytes are left.
-use Prim.Native.Nat.{ℕ, _+_, _-_, _≤_, _<_}
-use mathlib.Core.Path.{_≡_, refl, sym, ap, _∙_}
+use Prim.Native.Nat.{ℕ, _+_, _-_, _≤_}
+use mathlib.Core.Path.{_≡_, sym, ap, _∙_}
 use mathlib.Core.List.{List}
-use lib.ListN.{length}
 use lib.Dec.{eqb}
 use Rattle.records.specs.Rows.{lowest, lowestFrom}
 use Rattle.records.specs.Numbers.{one}
 use Rattle.records.specs.LoopLaws.{search-start, search-none, found-equal, passed-other}
-use Rattle.meaning.specs.Name.{nameEnd}
-use Rattle.names.specs.RecordNames.{recordFrom}
 use Rattle.soundness.specs.RecordRules.{isEnd, end-there}
 use borrow.Author.Needs.{needs}
 use Rattle.soundness.proofs.name_end.Statement.{statement}

@@ -1,20 +1,17 @@
 -- No record passed has the name of record i; the measure is how many are left.
 use Prim.Native.Nat.{ℕ, _+_, _-_, _*_, _≤_, _<_}
-use mathlib.Core.Path.{_≡_, refl, sym, ap, _∙_}
+use mathlib.Core.Path.{_≡_, refl, sym}
 use mathlib.Core.List.{List}
 use mathlib.Core.Bool.{Bool, true, false, not}
 use native.Mathlib.Omega.{arith}
 use Rattle.records.specs.Rows.{every}
 use Rattle.records.specs.LoopLaws.{every-start, every-step, every-fail}
 use Rattle.soundness.specs.RuleLoops.{rules-passed}
-use mathlib.Core.Bool.{_||_}
-use lib.ListN.{length}
 use Rattle.records.specs.Numbers.{zeros}
-use Rattle.records.specs.Tests.{or-right}
 use Rattle.meaning.specs.Name.{entryIn, entryAt, isBlank, same}
 use Rattle.names.specs.RecordNames.{recordFrom, entry-at}
 use Rattle.soundness.specs.Rules.{newAt}
-use Rattle.soundness.specs.Slots.{slot, slot-small, slot-fits, Within}
+use Rattle.soundness.specs.Slots.{slot, slot-small, slot-fits}
 use borrow.Author.Needs.{needs}
 use Rattle.soundness.proofs.name_new.Statement.{statement}
 use Rattle.soundness.proofs.name_new.Tie as tie

@@ -1,9 +1,8 @@
 -- Every name passed is new; the measure is how many records are left.
-use Prim.Native.Nat.{ℕ, _+_, _-_, _*_, _≤_, _<_}
-use mathlib.Core.Path.{_≡_, refl, sym, ap, _∙_}
+use Prim.Native.Nat.{ℕ, _-_, _≤_}
+use mathlib.Core.Path.{_≡_, refl, _∙_}
 use mathlib.Core.List.{List}
-use mathlib.Core.Bool.{Bool, true, false, not}
-use native.Mathlib.Omega.{arith}
+use mathlib.Core.Bool.{true}
 use Rattle.records.specs.Rows.{every}
 use Rattle.records.specs.LoopLaws.{every-start}
 use Rattle.soundness.specs.RuleLoops.{rule-passed, rule-failed, rules-passed}

@@ -1,35 +1,21 @@
 -- Each place of every file passed has exactly one block; the measure is how many files are left.
-use Prim.Native.Nat.{ℕ, suc, _+_, _-_, _*_, _/_, _≤_}
-use mathlib.Core.Path.{_≡_, refl, sym, _∙_}
-use mathlib.Core.List.{List, []}
+use Prim.Native.Nat.{ℕ, suc, _-_, _/_, _≤_}
+use mathlib.Core.Path.{_≡_, refl}
+use mathlib.Core.List.{List}
 use mathlib.Core.Bool.{Bool, true}
 use lib.ListN.{length}
 use Rattle.records.specs.Rows.{every}
 use Rattle.records.specs.LoopLaws.{every-start}
 use Rattle.soundness.specs.RuleLoops.{rule-passed, rule-failed, rules-passed}
-use Prim.Native.Nat.{_<_}
-use native.Mathlib.Omega.{arith}
-use Rattle.records.specs.RowLaws.{every-all, length-listOf}
-use Rattle.meaning.specs.Tables.{tables, storeOf, fileOf, byteOf, lengthAt}
-use Rattle.meaning.specs.Sound.{fileSound, filesSound, placedOnce}
-use Rattle.soundness.specs.Well.{FileForm}
-use Rattle.soundness.specs.FormLaws.{file-sound}
-use Rattle.soundness.specs.WellFacts.{form-size}
-use Rattle.soundness.specs.Seen.{filesStore, recordTables}
+use Rattle.meaning.specs.Sound.{placedOnce}
+use Rattle.soundness.specs.Seen.{recordTables}
+use Rattle.soundness.specs.SoundLaws.{files-short}
 use borrow.Author.Needs.{needs}
 use Rattle.soundness.proofs.places_sound.Statement.{statement}
 use Rattle.soundness.proofs.places_sound.Tie as tie
 
 abbrev rule : List ℕ → List ℕ → ℕ → Bool
 rule records files r = placedOnce (recordTables records files) (suc r)
-
--- no sound file is longer than 32,768
-short : (files : List ℕ) (r : ℕ) → filesSound (filesStore files) ≡ true → r < length files / 8 → lengthAt files r ≤ 32768
-unfolding filesSound storeOf fileOf
-short files r e h =
-    let x = filesStore files .file (suc r) in
-    let size = form-size x (file-sound x (suc r) (every-all (length files / 8) (λ i. fileSound (suc i) (filesStore files .file (suc i))) e r h) .0) in
-    omega (arith, size, length-listOf (lengthAt files r) (byteOf (tables [] [] files []) (suc r)))
 
 abbrev Inv-loop : tie.InvT-loop
 Inv-loop block-records file-records count r₀ r = (count ≡ length file-records / 8) × (r ≤ count) × (every r (rule block-records file-records) ≡ true)
@@ -41,7 +27,7 @@ loop-holds : tie.Need-loop-holds Inv-loop μ-loop
 loop-holds c = (refl, search needs, search every-start)
 
 file-placed-requires : tie.Need-file-placed-requires Inv-loop μ-loop
-file-placed-requires c κs = (search needs, search needs, short _ _ (search needs) (search needs))
+file-placed-requires c κs = (search needs, search needs, files-short _ (search needs) _ (search needs))
 
 returns : tie.Need-returns Inv-loop μ-loop
 returns c = rule-failed (rule _ _) _ _ (c .before .file-placed .ensures) _ (search needs) (c .if1 .taken)

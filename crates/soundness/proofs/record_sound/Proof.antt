@@ -1,8 +1,7 @@
 use Prim.Native.Nat.{ℕ, _*_}
 use mathlib.Core.Path.{_≡_, refl, sym, ap, _∙_}
 use mathlib.Core.List.{List}
-use mathlib.Core.Bool.{Bool, true, false, not, _&&_, _||_, or-false, and-true}
-use native.Mathlib.Omega.{arith}
+use mathlib.Core.Bool.{Bool, true, false, not, _&&_, _||_, or-false}
 use borrow.Author.Tests.{ne-eqb, not-true, not-false}
 use lib.Dec.{eqb}
 use Rattle.records.specs.Numbers.{zeros}

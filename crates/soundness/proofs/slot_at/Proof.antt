@@ -1,4 +1,3 @@
-use native.Mathlib.Omega.{arith}
 use Rattle.soundness.specs.Slots.{slot}
 use borrow.Author.Needs.{needs}
 use Rattle.soundness.proofs.slot_at.Statement.{statement}

@@ -1,36 +1,19 @@
 -- The bytes passed stand in hex, two digits each; the measure is how many bytes are left.
-use Prim.Native.Nat.{ℕ, _+_, _-_, _*_, _≤_, _<_}
+use Prim.Native.Nat.{ℕ, _+_, _-_, _*_, _≤_}
 use mathlib.Core.Path.{_≡_, refl}
-use mathlib.Core.List.{List, [], _∷_, _++_}
-use native.Mathlib.Numerals.{add-one}
+use mathlib.Core.List.{List, [], _∷_}
 use native.Mathlib.Omega.{arith}
-use lib.ListN.{length, take, getD}
-use lib.Seq.{take-suc, take-all}
+use lib.ListN.{length, take}
 use Rattle.text.specs.Print.{hex}
 use Rattle.text.specs.Lays.{Lays}
-use Rattle.text.specs.LaysLaws.{lays-none, lays-both}
+use Rattle.text.proofs.PrintLaws.{hex-append, each-start, each-more, each-all}
 use borrow.Author.Needs.{needs}
 use Rattle.text.proofs.print.put_hex.Statement.{statement}
 use Rattle.text.proofs.print.put_hex.Tie as tie
 
-hex-append : (xs ys : List ℕ) → hex (xs ++ ys) ≡ hex xs ++ hex ys
+hex-start : (out : List ℕ) (at : ℕ) (bytes : List ℕ) → at + 2 * length bytes ≤ length out → Lays out at (hex (take 0 bytes)) out at
 unfolding hex
-hex-append [] ys = refl
-hex-append (x ∷ xs) ys = rw (hex-append xs ys)
-
-start : (out : List ℕ) (at : ℕ) (bytes : List ℕ) → Lays out at (hex (take 0 bytes)) out at
-unfolding hex
-start out at bytes = lays-none out at
-
-module _ (out₀ : List ℕ) (at : ℕ) (bytes : List ℕ) (i : ℕ) (out : List ℕ) (next : ℕ) (so-far : Lays out₀ at (hex (take i bytes)) out next) where
-  one-more : i < length bytes → (out′ : List ℕ) (next′ : ℕ) → Lays out next (hex (getD bytes i 0 ∷ [])) out′ next′
-      → Lays out₀ at (hex (take (i + 1) bytes)) out′ next′
-  one-more h out′ next′ l =
-      rw (add-one i, take-suc bytes i 0 h, hex-append (take i bytes) (getD bytes i 0 ∷ []))
-      (lays-both (hex (take i bytes)) (hex (getD bytes i 0 ∷ [])) out₀ out out′ at next next′ so-far l)
-
-  all-bytes : i ≤ length bytes → length bytes ≤ i → Lays out₀ at (hex bytes) out next
-  all-bytes l h = rw (take-all i bytes h) at so-far
+hex-start out at bytes h = each-start hex refl out at bytes (omega arith)
 
 next-place : (out out′ : List ℕ) (at i next next′ b : ℕ) → next ≡ at + 2 * i → Lays out next (hex (b ∷ [])) out′ next′ → next′ ≡ at + 2 * (i + 1)
 unfolding hex
@@ -44,7 +27,7 @@ abbrev μ-loop : tie.MeasureT-loop
 μ-loop out₀ at bytes next₀ i₀ out next i = length bytes - i
 
 loop-holds : tie.Need-loop-holds Inv-loop μ-loop
-loop-holds c = (search needs, search needs, search needs, search start)
+loop-holds c = (search needs, search needs, search needs, search hex-start)
 
 shared-slice-read-put-hex-byte : tie.Need-shared-slice-read-put-hex-byte Inv-loop μ-loop
 shared-slice-read-put-hex-byte c = search needs
@@ -59,13 +42,13 @@ loop-less : tie.Need-loop-less Inv-loop μ-loop
 loop-less c = search needs
 
 loop-again : tie.Need-loop-again Inv-loop μ-loop
-loop-again c = (search needs, search needs, search next-place, search one-more)
+loop-again c = (search needs, search needs, search next-place, search (each-more hex hex-append))
 
 same-length : tie.Need-same-length Inv-loop μ-loop
 same-length c = search needs
 
 returns : tie.Need-returns Inv-loop μ-loop
-returns c = search all-bytes
+returns c = search (each-all hex hex-append)
 
 pub put-hex-spec : {M : Type 1} → statement M
 put-hex-spec =
