@@ -78,7 +78,7 @@ pub fn take_blocks(block_records: &mut [u8], f: FileNo, i: u16, n: u16)
 }
 
 // n bytes of `from`, from byte `start` on, laid over `to` from byte `at` on.
-fn copy_run(from: &[u8], start: usize, n: usize, to: &mut [u8], at: usize)
+pub fn copy_run(from: &[u8], start: usize, n: usize, to: &mut [u8], at: usize)
     requires { ⌜ (start + n ≤ length (now from)) × (at + n ≤ length (now to)) ⌝ }
     ensures { λ r. ⌜ now (to .exit) ≡ sets (now (to .entry)) at (take n (drop start (now (from .entry)))) ⌝ }
 {

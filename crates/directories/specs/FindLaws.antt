@@ -51,6 +51,14 @@ module _ (test : ℕ → Bool) (at n j : ℕ) (left : runLowest test at n ≡ le
 
 -- ---- run by run
 
+-- record x of run k lies at 16 * x in its block
+pub run-place : (records : List ℕ) (d k b : ℕ) → b ≡ blockOf records d k → (x : ℕ) → x < 32 → recordPlace records d (32 * k + x) ≡ 512 * b + 16 * x
+unfolding recordPlace
+run-place records d k b block x l =
+    let run : (32 * k + x) / 32 ≡ k = omega arith in
+    let at : (32 * k + x) % 32 ≡ x = omega arith in
+    rw (run, at, block)
+
 module _ (test : ℕ → Bool) (records : List ℕ) (d count : ℕ) where
   -- what is left of the directory from run k on
   abbrev pub leftIn : ℕ → ℕ
@@ -66,17 +74,9 @@ module _ (test : ℕ → Bool) (records : List ℕ) (d count k : ℕ) (left : pl
   places-none h = sym (run-end count (λ i. test (recordPlace records d i)) k h left)
 
   module _ (b : ℕ) (block : b ≡ blockOf records d k) (more : 32 * k < count) (n : ℕ) (size : n ≡ min 32 (count - 32 * k)) (j : ℕ) (is : j ≡ runLowest test (512 * b) n) where
-    -- record x of run k lies at 16 * x in its block
-    lies : (x : ℕ) → x < n → recordPlace records d (32 * k + x) ≡ 512 * b + 16 * x
-    unfolding recordPlace
-    lies x l =
-        let run : (32 * k + x) / 32 ≡ k = omega arith in
-        let at : (32 * k + x) % 32 ≡ x = omega arith in
-        rw (run, at, block)
-
     same-run : j ≡ lowest n (λ x. test (recordPlace records d (32 * k + x)))
     unfolding runLowest
-    same-run = is ∙ lowest-cong n (λ x. test (512 * b + 16 * x)) (λ x. test (recordPlace records d (32 * k + x))) (λ x l. ap test (sym (lies x l)))
+    same-run = is ∙ lowest-cong n (λ x. test (512 * b + 16 * x)) (λ x. test (recordPlace records d (32 * k + x))) (λ x (l : x < n). ap test (sym (run-place records d k b block x (omega arith))))
 
     pub places-found : j < n → 32 * k + j ≡ placeLowest test records d count
     unfolding placeLowest

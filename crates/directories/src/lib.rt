@@ -47,7 +47,7 @@ fn find_blank_in_run(blocks: &[u8], at: usize, n: usize) -> usize
 }
 
 // How many of the records from run k on lie in one block.
-fn run_size(count: usize, k: usize) -> usize
+pub fn run_size(count: usize, k: usize) -> usize
     requires { ⌜ 32 * k < count ⌝ }
     ensures { λ r. ⌜ r ≡ min 32 (count - 32 * k) ⌝ }
 {

@@ -1,0 +1,72 @@
+-- The names are those of the runs passed; the measure is how many records are left.
+use Prim.Native.Nat.{_+_, _-_, _*_, _≤_}
+use mathlib.Core.Path.{_≡_}
+use native.Mathlib.Omega.{arith}
+use borrow.Author.Needs.{needs}
+use lib.ListN.{length}
+use Rattle.directories.specs.FindLaws.{block-inside}
+use Rattle.listing.specs.Names.{placeCount}
+use Rattle.listing.specs.RunLaws.{passed, places-count-start, places-counted, run-small, places-count-end}
+use Rattle.listing.proofs.count_names.Statement.{statement}
+use Rattle.listing.proofs.count_names.Tie as tie
+
+abbrev Inv-loop : tie.InvT-loop
+Inv-loop blocks block-records d count names₀ k₀ names k = (k ≤ 2048) × (names ≤ 32 * k) × (names ≡ placeCount blocks block-records (d .0) (passed blocks block-records (d .0) count k))
+
+abbrev μ-loop : tie.MeasureT-loop
+μ-loop blocks block-records d count names₀ k₀ names k = count - 32 * k
+
+loop-holds : tie.Need-loop-holds Inv-loop μ-loop
+loop-holds c = (search needs, search needs, search places-count-start)
+
+mul-loop : tie.Need-mul-loop Inv-loop μ-loop
+mul-loop c = search needs
+
+cast-find-block : tie.Need-cast-find-block Inv-loop μ-loop
+cast-find-block c = search needs
+
+find-block-requires : tie.Need-find-block-requires Inv-loop μ-loop
+find-block-requires c κs = search needs
+
+run-size-requires : tie.Need-run-size-requires Inv-loop μ-loop
+run-size-requires c κs = search needs
+
+mul-count-names-in-run : tie.Need-mul-count-names-in-run Inv-loop μ-loop
+mul-count-names-in-run c = let inside : 512 * c .before .find-block .result + 512 ≤ length (c .before .before .before .before .before .before .args .blocks .now) = search block-inside in omega arith
+
+count-names-in-run-requires : tie.Need-count-names-in-run-requires Inv-loop μ-loop
+count-names-in-run-requires c κs = let inside : 512 * c .before .find-block .result + 512 ≤ length (c .before .before .before .before .before .before .args .blocks .now) = search block-inside in (omega arith, omega arith)
+
+add-names : tie.Need-add-names Inv-loop μ-loop
+add-names c = let small : c .count-names-in-run .result ≤ 32 = search run-small in omega arith
+
+add-k : tie.Need-add-k Inv-loop μ-loop
+add-k c = search needs
+
+loop-less : tie.Need-loop-less Inv-loop μ-loop
+loop-less c = search needs
+
+loop-again : tie.Need-loop-again Inv-loop μ-loop
+loop-again c = (search needs, let small : c .count-names-in-run .result ≤ 32 = search run-small in omega arith, search places-counted)
+
+returns : tie.Need-returns Inv-loop μ-loop
+returns c = search places-count-end
+
+pub count-names-spec : {M : Type 1} → statement M
+count-names-spec =
+    tie.close
+    (tie.spec
+    Inv-loop
+    μ-loop
+    loop-holds
+    mul-loop
+    cast-find-block
+    find-block-requires
+    run-size-requires
+    mul-count-names-in-run
+    count-names-in-run-requires
+    add-names
+    add-k
+    loop-less
+    loop-again
+    returns)

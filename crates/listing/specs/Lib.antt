@@ -1,0 +1,5 @@
+pub mod Names
+pub mod NameLaws
+pub mod RunLaws
+pub mod Listed
+pub mod List
