@@ -8,3 +8,9 @@ pub mod RuleLoops
 pub mod Rules
 pub mod Slots
 pub mod RecordRules
+pub mod DirectoryRules
+pub mod DirectoryReads
+pub mod Counts
+pub mod SoundLaws
+pub mod NamesSeen
+pub mod SoundRules

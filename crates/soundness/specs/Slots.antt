@@ -35,13 +35,13 @@ pub record Placed (blocks records files : List ℕ) : Type 0 where
   pub short : (r : ℕ) → r < fileCount files → lengthAt files r ≤ longest
   pub there : (f i : ℕ) → i < needed (fileLength files f) → blockOf records f i < blockCount records
 
+pub dir-length : (blocks records files : List ℕ) (r : ℕ) → length (directoriesStore blocks records files .file (suc r) .bytes) ≡ lengthAt files r
+unfolding storeOf fileOf
+dir-length blocks records files r = length-listOf (lengthAt files r) (byteOf (tables blocks records files []) (suc r))
+
 module _ (blocks records files : List ℕ) (placed : Placed blocks records files) (r : ℕ) (starts : List ℕ) (found : Starts records (suc r) (needed (lengthAt files r)) starts) where
   abbrev dir : List ℕ
   dir = directoriesStore blocks records files .file (suc r) .bytes
-
-  dir-length : length dir ≡ lengthAt files r
-  unfolding storeOf fileOf
-  dir-length = length-listOf (lengthAt files r) (byteOf (tables blocks records files []) (suc r))
 
   module _ (i : ℕ) (h : i < lengthAt files r / 16) where
     -- record i lies in the block table
@@ -64,7 +64,7 @@ module _ (blocks records files : List ℕ) (placed : Placed blocks records files
     pub slot-record : recordAt dir i ≡ recordAt blocks (slot starts i)
     slot-record =
         record-at dir i
-        ∙ record-same dir blocks (16 * i) (16 * slot starts i) byte-there (omega (arith, dir-length)) slot-inside
+        ∙ record-same dir blocks (16 * i) (16 * slot starts i) byte-there (omega (arith, dir-length blocks records files r)) slot-inside
         ∙ sym (record-at blocks (slot starts i))
 
     pub slot-entry : entryAt dir i ≡ entryAt blocks (slot starts i)
@@ -93,3 +93,10 @@ within-placed blocks records files placed r h starts found =
       small = omega (arith, placed .whole, placed .few-blocks);
       inside = slot-inside blocks records files placed r starts found;
     }
+
+module _ (blocks starts : List ℕ) (n : ℕ) (w : Within blocks starts n) (i : ℕ) (h : i < n) where
+  pub slot-small : (i < 2048) × (slot starts i < 4096)
+  slot-small = omega (arith, w .few, w .small, w .inside i h)
+
+  pub slot-fits : (k : ℕ) → k ≡ slot starts i → 16 * k + 16 ≤ length blocks
+  slot-fits k e = omega (arith, w .inside i h)

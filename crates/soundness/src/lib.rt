@@ -8,6 +8,7 @@ use records::one_at;
 use records::two_at;
 use records::zeros_at;
 use tables::find_block;
+use tables::is_held;
 ghost use mathlib.Core.Path.{_≡_};
 ghost use mathlib.Core.Bool.{true};
 ghost use Prim.Native.Nat.{suc, _+_, _*_, _≤_, _<_};
@@ -17,11 +18,14 @@ ghost use Rattle.records.specs.Numbers.{zeros};
 ghost use Rattle.meaning.specs.Name.{nameEnd, isWritten, same, entryIn, entryAt};
 ghost use Rattle.meaning.specs.Store.{inUse, isDirectory};
 ghost use Rattle.meaning.specs.Tables.{tables, blockCount, fileCount, channelCount, lengthAt};
-ghost use Rattle.meaning.specs.Sound.{lengthsAgree, blockSound, placedOnce, fileSound, filesSound, channelSound, channelsSound, recordSound};
+ghost use Rattle.meaning.specs.Sound.{lengthsAgree, blockSound, placedOnce, fileSound, filesSound, channelSound, channelsSound, recordSound, sound};
 ghost use Rattle.names.specs.RecordNames.{recordFrom};
-ghost use Rattle.soundness.specs.Rules.{countsTo, directoryForm, placeCount, placedBelow, deeperThan};
+ghost use Rattle.soundness.specs.Rules.{countsTo, directoryForm, placeCount, placedBelow, deeperThan, newAt, recordsAt, namesAt, deeperAt, Countable, Counted, isNamedBy, allNamedBy};
 ghost use Rattle.soundness.specs.Seen.{filesStore, channelsStore, recordTables};
-ghost use Rattle.soundness.specs.Slots.{Starts, slot};
+ghost use Rattle.soundness.specs.Slots.{directoriesStore, Starts, slot, Placed, Within};
+ghost use Rattle.soundness.specs.DirectoryRules.{directoryRule, directoriesRule};
+ghost use Rattle.soundness.specs.Counts.{Counts};
+ghost use Rattle.soundness.specs.SoundLaws.{tablesSound};
 
 // Whether f is the number of a file in use.
 pub fn in_use(file_records: &[u8], f: FileNo) -> bool
@@ -377,4 +381,242 @@ fn one_deeper(blocks: &[u8], file_records: &[u8], depth: u8, k: usize) -> bool
     }
     let its = one_at(file_records, 8 * (f.0 as usize - 1) + 1);
     its as u16 == depth as u16 + 1
+}
+
+// Whether every one of a directory's n records is sound.
+fn records_sound(blocks: &[u8], file_records: &[u8], starts: &[u16; 64], n: usize) -> bool
+    requires { ⌜ Within (now blocks) (now starts) n ⌝ }
+    ensures { λ r. ⌜ r ≡ recordsAt (filesStore (now («file_records» .entry))) (now (blocks .entry)) (now (starts .entry)) n ⌝ }
+{
+    let mut i: usize = 0;
+    while i < n {
+        if !record_sound(blocks, file_records, slot_at(starts, i)) {
+            return false;
+        }
+        i += 1;
+    }
+    true
+}
+
+// Whether record i of a directory is blank, or no record before it has its name.
+fn name_new(blocks: &[u8], starts: &[u16; 64], i: usize) -> bool
+    requires { ⌜ Within (now blocks) (now starts) (i + 1) ⌝ }
+    ensures { λ r. ⌜ r ≡ newAt (now (blocks .entry)) (now (starts .entry)) i ⌝ }
+{
+    let at = 16 * slot_at(starts, i);
+    if is_blank(blocks, at) {
+        return true;
+    }
+    let mut j: usize = 0;
+    while j < i {
+        if same_name(blocks, 16 * slot_at(starts, j), at) {
+            return false;
+        }
+        j += 1;
+    }
+    true
+}
+
+// Whether no two of a directory's n records have the same name.
+fn names_new(blocks: &[u8], starts: &[u16; 64], n: usize) -> bool
+    requires { ⌜ Within (now blocks) (now starts) n ⌝ }
+    ensures { λ r. ⌜ r ≡ namesAt (now (blocks .entry)) (now (starts .entry)) n ⌝ }
+{
+    let mut i: usize = 0;
+    while i < n {
+        if !name_new(blocks, starts, i) {
+            return false;
+        }
+        i += 1;
+    }
+    true
+}
+
+// Whether every directory that is named by one of a directory's n records is one deeper.
+fn all_deeper(blocks: &[u8], file_records: &[u8], starts: &[u16; 64], n: usize, depth: u8) -> bool
+    requires { ⌜ Within (now blocks) (now starts) n ⌝ }
+    ensures { λ r. ⌜ r ≡ deeperAt (filesStore (now («file_records» .entry))) (now (blocks .entry)) (now (starts .entry)) depth n ⌝ }
+{
+    let mut i: usize = 0;
+    while i < n {
+        if !one_deeper(blocks, file_records, depth, slot_at(starts, i)) {
+            return false;
+        }
+        i += 1;
+    }
+    true
+}
+
+// Whether the records of file record r, if that is a directory's, are sound, their names new and what they name one deeper.
+fn directory_sound(blocks: &[u8], block_records: &[u8], file_records: &[u8], r: usize) -> bool
+    requires { ⌜ Placed (now blocks) (now «block_records») (now «file_records») ⌝ ∗ ⌜ r < fileCount (now «file_records») ⌝ }
+    ensures { λ b. ⌜ b ≡ directoryRule (directoriesStore (now (blocks .entry)) (now («block_records» .entry)) (now («file_records» .entry))) (suc r) ⌝ }
+{
+    if one_at(file_records, 8 * r) != 2 {
+        return true;
+    }
+    let depth = one_at(file_records, 8 * r + 1);
+    let size = four_at(file_records, 8 * r + 4) as usize;
+    let starts = find_blocks(block_records, FileNo(r as u16 + 1), (size + 511) / 512);
+    let n = size / 16;
+    if !records_sound(blocks, file_records, &starts, n) {
+        return false;
+    }
+    if !names_new(blocks, &starts, n) {
+        return false;
+    }
+    all_deeper(blocks, file_records, &starts, n, depth)
+}
+
+// Whether every directory is sound.
+fn directories_sound(blocks: &[u8], block_records: &[u8], file_records: &[u8]) -> bool
+    requires { ⌜ Placed (now blocks) (now «block_records») (now «file_records») ⌝ }
+    ensures { λ b. ⌜ b ≡ directoriesRule (directoriesStore (now (blocks .entry)) (now («block_records» .entry)) (now («file_records» .entry))) ⌝ }
+{
+    let count = file_records.len() / 8;
+    let mut r = 0;
+    while r < count {
+        if !directory_sound(blocks, block_records, file_records, r) {
+            return false;
+        }
+        r += 1;
+    }
+    true
+}
+
+// The names that a directory's n records give, added to the count of each file.
+fn count_directory(blocks: &[u8], starts: &[u16; 64], n: usize, counts: &mut [u32; 65])
+    requires { ⌜ Countable (now blocks) (now starts) n (now counts) ⌝ }
+    ensures { λ r. ⌜ Counted (now (blocks .entry)) (now (starts .entry)) n (now (counts .entry)) (now (counts .exit)) ⌝ }
+{
+    let mut i: usize = 0;
+    while i < n {
+        let f = record_file(blocks, 16 * slot_at(starts, i));
+        let k = f.0 as usize;
+        counts[k] += 1;
+        i += 1;
+    }
+}
+
+// The names that file record r gives, if that is a directory's, added to the count of each file.
+fn add_names(
+    blocks: &[u8],
+    block_records: &[u8],
+    file_records: &[u8],
+    r: usize,
+    counts: &mut [u32; 65],
+)
+    requires { ⌜ Placed (now blocks) (now «block_records») (now «file_records») ⌝ ∗ ⌜ r < fileCount (now «file_records») ⌝ ∗ ⌜ directoriesRule (directoriesStore (now blocks) (now «block_records») (now «file_records»)) ≡ true ⌝ ∗ ⌜ Counts (directoriesStore (now blocks) (now «block_records») (now «file_records»)) r (now counts) ⌝ }
+    ensures { λ b. ⌜ Counts (directoriesStore (now (blocks .entry)) (now («block_records» .entry)) (now («file_records» .entry))) (r + 1) (now (counts .exit)) ⌝ }
+{
+    if one_at(file_records, 8 * r) != 2 {
+        return;
+    }
+    let size = four_at(file_records, 8 * r + 4) as usize;
+    let starts = find_blocks(block_records, FileNo(r as u16 + 1), (size + 511) / 512);
+    count_directory(blocks, &starts, size / 16, counts);
+}
+
+// How many records name each file, over all directories.
+fn count_names(blocks: &[u8], block_records: &[u8], file_records: &[u8]) -> [u32; 65]
+    requires { ⌜ Placed (now blocks) (now «block_records») (now «file_records») ⌝ ∗ ⌜ directoriesRule (directoriesStore (now blocks) (now «block_records») (now «file_records»)) ≡ true ⌝ }
+    ensures { λ b. ⌜ Counts (directoriesStore (now (blocks .entry)) (now («block_records» .entry)) (now («file_records» .entry))) (fileCount (now («file_records» .entry))) b ⌝ }
+{
+    let mut counts: [u32; 65] = [0; 65];
+    let count = file_records.len() / 8;
+    let mut r = 0;
+    while r < count {
+        add_names(blocks, block_records, file_records, r, &mut counts);
+        r += 1;
+    }
+    counts
+}
+
+// Whether file f has the names or the channel that it needs, where `count` records name it.
+fn is_named(file_records: &[u8], channel_records: &[u8], f: FileNo, count: u32) -> bool
+    ensures { λ r. ⌜ r ≡ isNamedBy (channelsStore (now («file_records» .entry)) (now («channel_records» .entry))) count (f .0) ⌝ }
+{
+    if f.0 == 1 {
+        return true;
+    }
+    if !in_use(file_records, f) {
+        return true;
+    }
+    if is_directory(file_records, f) {
+        return count == 1;
+    }
+    if 0 < count {
+        return true;
+    }
+    is_held(channel_records, f)
+}
+
+// Whether every file has the names or the channel that it needs, by the counts of names.
+fn all_named(file_records: &[u8], channel_records: &[u8], counts: &[u32; 65]) -> bool
+    requires { ⌜ fileCount (now «file_records») ≤ 64 ⌝ }
+    ensures { λ r. ⌜ r ≡ allNamedBy (channelsStore (now («file_records» .entry)) (now («channel_records» .entry))) (now (counts .entry)) ⌝ }
+{
+    let last = file_records.len() / 8;
+    let mut r: usize = 0;
+    while r < last {
+        if !is_named(
+            file_records,
+            channel_records,
+            FileNo(r as u16 + 1),
+            counts[r + 1],
+        ) {
+            return false;
+        }
+        r += 1;
+    }
+    true
+}
+
+// Whether table lengths, zeros, file records, block records and places are sound.
+fn tables_sound(
+    blocks: &[u8],
+    block_records: &[u8],
+    file_records: &[u8],
+    channel_records: &[u8],
+) -> bool
+    ensures { λ r. ⌜ r ≡ tablesSound (tables (now (blocks .entry)) (now («block_records» .entry)) (now («file_records» .entry)) (now («channel_records» .entry))) ⌝ }
+{
+    if !lengths_agree(blocks, block_records, file_records, channel_records) {
+        return false;
+    }
+    if !zeros_stand(file_records) {
+        return false;
+    }
+    if !zeros_stand(channel_records) {
+        return false;
+    }
+    if !files_sound(file_records) {
+        return false;
+    }
+    if !owners_sound(block_records, file_records) {
+        return false;
+    }
+    places_sound(block_records, file_records)
+}
+
+// Whether the tables are a sound store. They may have any lengths and hold any bytes.
+pub fn is_sound(
+    blocks: &[u8],
+    block_records: &[u8],
+    file_records: &[u8],
+    channel_records: &[u8],
+) -> bool
+    ensures { λ r. ⌜ r ≡ sound (tables (now (blocks .entry)) (now («block_records» .entry)) (now («file_records» .entry)) (now («channel_records» .entry))) ⌝ }
+{
+    if !tables_sound(blocks, block_records, file_records, channel_records) {
+        return false;
+    }
+    if !channels_sound(file_records, channel_records) {
+        return false;
+    }
+    if !directories_sound(blocks, block_records, file_records) {
+        return false;
+    }
+    let counts = count_names(blocks, block_records, file_records);
+    all_named(file_records, channel_records, &counts)
 }
