@@ -1,0 +1,5 @@
+pub mod Files
+pub mod FileLaws
+pub mod PutLaws
+pub mod WriteLaws
+pub mod Growing
