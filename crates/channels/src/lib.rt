@@ -4,6 +4,7 @@ use meaning::FileNo;
 use meaning::Report;
 use meaning::Sought;
 use meaning::Stat;
+use soundness::is_sound;
 use tables::ChannelRecord;
 use tables::channel_record;
 use tables::file_record;
@@ -11,23 +12,10 @@ use tables::put_channel_record;
 ghost use mathlib.Core.Path.{_≡_};
 ghost use Prim.Native.Nat.{_≤_, _<_};
 ghost use Rattle.meaning.specs.ChannelCalls.{seekTo};
-ghost use Rattle.meaning.specs.Tables.{tables};
-ghost use Rattle.meaning.specs.Sound.{sound};
 ghost use Rattle.meaning.specs.Run.{Keeps, Call, entered};
 ghost use Rattle.meaning.specs.Answers.{sought, statOf};
 ghost use Rattle.channels.specs.Held.{OnChannel};
 ghost use Rattle.channels.specs.Seek.{Decided};
-
-fn is_sound(
-    blocks: &[u8],
-    block_records: &[u8],
-    file_records: &[u8],
-    channel_records: &[u8],
-) -> bool
-    ensures { λ r. ⌜ r ≡ sound (tables (now (blocks .entry)) (now («block_records» .entry)) (now («file_records» .entry)) (now («channel_records» .entry))) ⌝ }
-{
-    blocks.len() < 3
-}
 
 // What a channel holds, or the refusal that comes before any other of a call on a channel.
 pub enum Held {

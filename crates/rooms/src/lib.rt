@@ -2,6 +2,7 @@
 use meaning::FileNo;
 use meaning::Report;
 use meaning::Space;
+use soundness::is_sound;
 use soundness::lengths_agree;
 use tables::FileRecord;
 use tables::count_channels;
@@ -10,21 +11,8 @@ use tables::count_free_blocks;
 use tables::put_file_record;
 ghost use mathlib.Core.Path.{_≡_};
 ghost use lib.ListN.{length, replicate};
-ghost use Rattle.meaning.specs.Tables.{tables};
-ghost use Rattle.meaning.specs.Sound.{sound};
 ghost use Rattle.meaning.specs.Run.{Keeps, Call};
 ghost use Rattle.meaning.specs.Answers.{reported, spaceOf};
-
-fn is_sound(
-    blocks: &[u8],
-    block_records: &[u8],
-    file_records: &[u8],
-    channel_records: &[u8],
-) -> bool
-    ensures { λ r. ⌜ r ≡ sound (tables (now (blocks .entry)) (now («block_records» .entry)) (now («file_records» .entry)) (now («channel_records» .entry))) ⌝ }
-{
-    blocks.len() < 3
-}
 
 // Free blocks, free file numbers, free channels.
 pub fn room(

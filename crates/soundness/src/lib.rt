@@ -252,7 +252,7 @@ fn counts_to(n: usize, most: usize) -> bool
 }
 
 // Whether the tables' lengths agree with one count of blocks, files and channels each, all in range.
-fn lengths_agree(
+pub fn lengths_agree(
     blocks: &[u8],
     block_records: &[u8],
     file_records: &[u8],
@@ -518,7 +518,7 @@ fn add_names(
 }
 
 // How many records name each file, over all directories.
-fn count_names(blocks: &[u8], block_records: &[u8], file_records: &[u8]) -> [u32; 65]
+pub fn count_names(blocks: &[u8], block_records: &[u8], file_records: &[u8]) -> [u32; 65]
     requires { ⌜ Placed (now blocks) (now «block_records») (now «file_records») ⌝ ∗ ⌜ directoriesRule (directoriesStore (now blocks) (now «block_records») (now «file_records»)) ≡ true ⌝ }
     ensures { λ b. ⌜ Counts (directoriesStore (now (blocks .entry)) (now («block_records» .entry)) (now («file_records» .entry))) (fileCount (now («file_records» .entry))) b ⌝ }
 {

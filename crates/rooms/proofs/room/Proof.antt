@@ -42,13 +42,13 @@ module _ (b br fr cr : List ℕ) (ok : Bool) (is : ok ≡ sound (tables b br fr 
     unfolding freeBlockCount
     few-blocks n e = omega (arith, howMany-within (λ b. isFree br b) (blockCount br), lengths .few-blocks)
 
-    few-files : (n : ℕ) → n ≡ filesWith fr 0 → n ≤ 64
+    few-files : (kind n : ℕ) → n ≡ filesWith fr kind → n ≤ 64
     unfolding filesWith
-    few-files n e = omega (arith, howMany-within (isOfKind fr 0) (fileCount fr), lengths .few-files)
+    few-files kind n e = omega (arith, howMany-within (isOfKind fr kind) (fileCount fr), lengths .few-files)
 
-    few-channels : (n : ℕ) → n ≡ channelsWith cr 0 → n ≤ 16
+    few-channels : (f n : ℕ) → n ≡ channelsWith cr f → n ≤ 16
     unfolding channelsWith
-    few-channels n e = omega (arith, howMany-within (isTo cr 0) (channelCount cr), lengths .few-channels)
+    few-channels f n e = omega (arith, howMany-within (isTo cr f) (channelCount cr), lengths .few-channels)
 
     free : (blocks files channels : ℕ) → blocks ≡ freeBlockCount br → files ≡ filesWith fr 0 → channels ≡ channelsWith cr 0
         → Promise Call.Room t [] (record { answer = numbers (blocks ∷ files ∷ channels ∷ []); buffer = []; tables = t })
