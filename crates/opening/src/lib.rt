@@ -187,14 +187,14 @@ pub fn create(
             );
             Opened::At(c)
         }
-        Creating::New(c, f, d, i) => {
-            give_name(blocks, block_records, file_records, d, i, f, name);
-            clear_file(block_records, file_records, f, 1, 0);
+        Creating::New(c, new, d, i) => {
+            give_name(blocks, block_records, file_records, d, i, new, name);
+            clear_file(block_records, file_records, new, 1, 0);
             put_channel_record(
                 channel_records,
                 c,
                 ChannelRecord {
-                    file: f,
+                    file: new,
                     position: 0,
                 },
             );
