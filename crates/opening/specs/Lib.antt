@@ -1,1 +1,4 @@
 pub mod Open
+pub mod Create
+pub mod CreateLaws
+pub mod CreateCases
