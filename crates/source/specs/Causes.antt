@@ -35,12 +35,13 @@ module _ (s : Store) where
 
   pub name-nowhere : (name : NAME) → (nowhere s name ≡ true) ↔ Nowhere (view s) name
   unfolding nowhere
-  name-nowhere name =
-      (λ e.
-      let (gone, none-there) = both (missing s name) (not (isDirectory s (named s (front name)))) e in
-      (name-missing name .0 gone, not-true (isDirectory s (named s (front name))) none-there),
-      λ (gone, none-there).
-      and-both (missing s name) (not (isDirectory s (named s (front name)))) (name-missing name .1 gone) (rw none-there))
+  name-nowhere name = (
+    λ e.
+        let (gone, none-there) = both (missing s name) (not (isDirectory s (named s (front name)))) e in
+        (name-missing name .0 gone, not-true (isDirectory s (named s (front name))) none-there),
+    λ (gone, none-there).
+        and-both (missing s name) (not (isDirectory s (named s (front name)))) (name-missing name .1 gone) (rw none-there),
+  )
 
   pub name-somewhere : (name : NAME) → (nowhere s name ≡ false) ↔ (Nowhere (view s) name → ⊥)
   name-somewhere name =

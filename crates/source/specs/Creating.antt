@@ -96,31 +96,32 @@ module _ (s : Store) (ready : Ready s) (name : NAME) (plain : isDirectory s (nam
     change = put-change s t emptied c y (free-below s free) (missing-some s name there) exists
 
     create-old : createFS name c (view s) (view t′)
-    create-old =
-        (view t′,
-        record {
-          change = change;
-          fid = f;
-          chan = chanOf y;
-          file = record { creates = channel-files t c y ∙ put };
-          channel =
-              record {
-                new = free-new s free;
-                start = refl;
-                opens = put-channel s t emptied c y (free-below s free) (missing-some s name there) exists;
-              };
-          names = record { creates = same-names .names ∙ renamed (view s .nstore) (view s .nstore) name (λ x n. refl) f is-named };
-          refers = refl;
-          existing = λ _. is-named;
-          new = λ gone. absurd (Option·none-ne-some f (sym gone ∙ is-named));
-        },
-        record {
-          change = record { before = change .after; after = change .after };
-          channels = refl;
-          names = record { names = refl; directories = refl };
-          stored = directories-stored t′ (λ m g e. change .after .used g (by-name m e));
-          others = λ g not-one. refl;
-        })
+    create-old = (
+      view t′,
+      record {
+        change = change;
+        fid = f;
+        chan = chanOf y;
+        file = record { creates = channel-files t c y ∙ put };
+        channel =
+            record {
+              new = free-new s free;
+              start = refl;
+              opens = put-channel s t emptied c y (free-below s free) (missing-some s name there) exists;
+            };
+        names = record { creates = same-names .names ∙ renamed (view s .nstore) (view s .nstore) name (λ x n. refl) f is-named };
+        refers = refl;
+        existing = λ _. is-named;
+        new = λ gone. absurd (Option·none-ne-some f (sym gone ∙ is-named));
+      },
+      record {
+        change = record { before = change .after; after = change .after };
+        channels = refl;
+        names = record { names = refl; directories = refl };
+        stored = directories-stored t′ (λ m g e. change .after .used g (by-name m e));
+        others = λ g not-one. refl;
+      },
+    )
 
     create-old-directories : SameDirectories (view s) (view t′)
     create-old-directories = same-names .directories

@@ -89,16 +89,17 @@ module _ (s : Store) (ready : Ready s) (from to : NAME) (there : missing s from 
       encoded mid mid-filing t (facts .channels) mid-names (facts .kept) (parent s to) (front to) (place-directory s to more p) (place-front s to more p f) (facts .files)
 
   given : linkFS from to (view s) (view t)
-  given =
-      (mid,
-      record {
-        change = record { before = fs; after = mid-filing };
-        files = refl;
-        channels = refl;
-        fid = f;
-        names = record { is = numbered-some f (missing-some s from there); links = refl };
-      },
-      encodes)
+  given = (
+    mid,
+    record {
+      change = record { before = fs; after = mid-filing };
+      files = refl;
+      channels = refl;
+      fid = f;
+      names = record { is = numbered-some f (missing-some s from there); links = refl };
+    },
+    encodes,
+  )
 
   -- there is no file 0
   none-goes : named s to ≡ 0 → view (afterAll t (letGo t (named s to))) ≡ view t

@@ -81,9 +81,10 @@ in-right f = (λ h. ⊎-elim (λ a. inl a) (λ b. inr (b .0, f .0 (b .1))) h, λ
 
 -- the old name is missing; or it is there, an ordinary file's, and the new name has nowhere to go
 no-link : (s : Store) (from to : NAME) → ((missing s from ≡ true) ⊎ ((missing s from ≡ false) × ((isDirectory s (named s from) ≡ false) × (nowhere s to ≡ true)))) ↔ NoLink (view s) from to
-no-link s from to =
-    (λ h. ⊎-elim (λ gone. inl (name-missing s from .0 gone)) (λ h. inr (name-there s from .0 (h .0), h .1 .0, name-nowhere s to .0 (h .1 .1))) h,
-    λ h. ⊎-elim (λ gone. inl (name-missing s from .1 gone)) (λ h. inr (name-there s from .1 (h .0), (h .1, name-nowhere s to .1 (h .2)))) h)
+no-link s from to = (
+  λ h. ⊎-elim (λ gone. inl (name-missing s from .0 gone)) (λ h. inr (name-there s from .0 (h .0), h .1 .0, name-nowhere s to .0 (h .1 .1))) h,
+  λ h. ⊎-elim (λ gone. inl (name-missing s from .1 gone)) (λ h. inr (name-there s from .1 (h .0), (h .1, name-nowhere s to .1 (h .2)))) h,
+)
 
 pub link-nowhere : TwoNamesHolds (λ s old new. link old new s)
 unfolding link numberOf

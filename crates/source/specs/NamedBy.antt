@@ -98,10 +98,11 @@ module _ (s : Store) (f : ℕ) where
       let at : f ≡ within s d (last name) = sym is ∙ named-last s name more in
       let d-is = within-directory s d (last name) (λ z. there (at ∙ z)) in
       let its : f ≡ inDirectory dir (last name) = at ∙ within-is s d (last name) d-is in
-      let found : recordNamed dir (last name) < recordCount dir = in-some dir (last name) (λ z. there (its ∙ z)) in
-      (record { d = d; i = recordNamed dir (last name); directory = d-is; within = found; file = sym (its ∙ in-found dir (last name) found) },
-      refl,
-      named-has dir (last name) found)
+      let found : recordNamed dir (last name) < recordCount dir = in-some dir (last name) (λ z. there (its ∙ z)) in (
+        record { d = d; i = recordNamed dir (last name); directory = d-is; within = found; file = sym (its ∙ in-found dir (last name) found) },
+        refl,
+        named-has dir (last name) found,
+      )
 
   -- a file that is not the root is counted by each of its names
   pub name-counts : (name : NAME) → named s name ≡ f → f ≢ 0 → f ≢ root → 0 < names s f
@@ -140,10 +141,14 @@ module _ (s : Store) (f : ℕ) (once : names s f ≡ 1) where
       let v = directory-used s (b .d) (b .directory) in
       ⊎-elim
       (λ (e : a .d ≡ b .d). e)
-      (λ (n : a .d ≢ b .d). absurd (omega (arith,
-      two-terms (s .fileCount) (names-of s f) (a .d - 1) (b .d - 1) (omega arith) (omega arith) (λ (q : a .d - 1 ≡ b .d - 1). absurd (n (omega arith))),
-      counts-it (a .d) (u .some) (a .directory), counts-it (b .d) (v .some) (b .directory),
-      in-it s f (s .file (a .d) .bytes) (a .i) (a .within) (a .file), in-it s f (s .file (b .d) .bytes) (b .i) (b .within) (b .file))))
+      (λ (n : a .d ≢ b .d). absurd (omega (
+        arith,
+        two-terms (s .fileCount) (names-of s f) (a .d - 1) (b .d - 1) (omega arith) (omega arith) (λ (q : a .d - 1 ≡ b .d - 1). absurd (n (omega arith))),
+        counts-it (a .d) (u .some) (a .directory),
+        counts-it (b .d) (v .some) (b .directory),
+        in-it s f (s .file (a .d) .bytes) (a .i) (a .within) (a .file),
+        in-it s f (s .file (b .d) .bytes) (b .i) (b .within) (b .file),
+      )))
       (same-or-not (a .d) (b .d))
 
   pub one-record : (a b : Names s f) → a .i ≡ b .i
@@ -157,7 +162,10 @@ module _ (s : Store) (f : ℕ) (once : names s f ≡ 1) where
       let b-is : entryAt dir (b .i) .file ≡ f = rw same-d (b .file) in
       ⊎-elim
       (λ (e : a .i ≡ b .i). e)
-      (λ (n : a .i ≢ b .i). absurd (omega (arith,
-      two-passing (recordCount dir) p (a .i) (b .i) (a .within) b-in (eq-eqb (entryAt dir (a .i) .file) f (a .file)) (eq-eqb (entryAt dir (b .i) .file) f b-is) n,
-      counts-it (a .d) (u .some) (a .directory), sum-term (s .fileCount) (names-of s f) (a .d - 1) (omega arith))))
+      (λ (n : a .i ≢ b .i). absurd (omega (
+        arith,
+        two-passing (recordCount dir) p (a .i) (b .i) (a .within) b-in (eq-eqb (entryAt dir (a .i) .file) f (a .file)) (eq-eqb (entryAt dir (b .i) .file) f b-is) n,
+        counts-it (a .d) (u .some) (a .directory),
+        sum-term (s .fileCount) (names-of s f) (a .d - 1) (omega arith),
+      )))
       (same-or-not (a .i) (b .i))

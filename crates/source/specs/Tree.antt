@@ -37,9 +37,10 @@ record-reached : (s : Store) (f : ℕ) (r : Names s f) → recordNamed (s .file 
     → (name : NAME) × (named s name ≡ r .d) → (name : NAME) × (named s name ≡ f)
 record-reached s f r own (name, at) =
     let dir = s .file (r .d) .bytes in
-    let syllable = entryAt dir (r .i) .name in
-    (name ++ syllable ∷ [],
-    named-more s name syllable ∙ ap (λ (e : ℕ). within s e syllable) at ∙ within-is s (r .d) syllable (r .directory) ∙ found-by dir (r .i) (r .within) own ∙ r .file)
+    let syllable = entryAt dir (r .i) .name in (
+      name ++ syllable ∷ [],
+      named-more s name syllable ∙ ap (λ (e : ℕ). within s e syllable) at ∙ within-is s (r .d) syllable (r .directory) ∙ found-by dir (r .i) (r .within) own ∙ r .file,
+    )
 
 pub name-of : (s : Store) → Tree s → (f : ℕ) → f ≢ 0 → 0 < names s f → (name : NAME) × (named s name ≡ f)
 name-of s t f there h =

@@ -88,15 +88,16 @@ module _ (s : Store) (ready : Ready s) (name : NAME) (is-last : isSyllable (last
       encoded mid mid-filing t (facts .channels) mid-names (facts .kept) (parent s name) (front name) its-directory front-named (facts .files)
 
   taken : unlinkFS name (view s) (view t)
-  taken =
-      (mid,
-      record {
-        change = record { before = fs; after = mid-filing };
-        files = refl;
-        channels = refl;
-        names = record { exists = (f, is-named); destroys = refl };
-      },
-      unlink-encodes)
+  taken = (
+    mid,
+    record {
+      change = record { before = fs; after = mid-filing };
+      files = refl;
+      channels = refl;
+      names = record { exists = (f, is-named); destroys = refl };
+    },
+    unlink-encodes,
+  )
 
   in-use : inUse s f ≡ true
   in-use = name-used s (ready .well) (ready .some-file) name (missing-some s name there)
