@@ -1,5 +1,9 @@
 // Calls on a channel.
+use counts::names_of;
+use files::clear_file;
+use files::read_file;
 use meaning::ChannelNo;
+use meaning::Counted;
 use meaning::FileNo;
 use meaning::Report;
 use meaning::Sought;
@@ -7,15 +11,19 @@ use meaning::Stat;
 use soundness::is_sound;
 use tables::ChannelRecord;
 use tables::channel_record;
+use tables::count_channels;
 use tables::file_record;
 use tables::put_channel_record;
 ghost use mathlib.Core.Path.{_≡_};
-ghost use Prim.Native.Nat.{_≤_, _<_};
+ghost use Prim.Native.Nat.{_+_, _≤_, _<_};
+ghost use lib.ListN.{length};
 ghost use Rattle.meaning.specs.ChannelCalls.{seekTo};
-ghost use Rattle.meaning.specs.Run.{Keeps, Call, entered};
-ghost use Rattle.meaning.specs.Answers.{sought, statOf};
+ghost use Rattle.meaning.specs.Run.{Keeps, KeepsInto, Call, entered};
+ghost use Rattle.meaning.specs.Answers.{counted, reported, sought, statOf};
 ghost use Rattle.channels.specs.Held.{OnChannel};
+ghost use Rattle.channels.specs.Move.{movedBy};
 ghost use Rattle.channels.specs.Seek.{Decided};
+ghost use Rattle.channels.specs.Close.{Closes};
 
 // What a channel holds, or the refusal that comes before any other of a call on a channel.
 pub enum Held {
@@ -155,6 +163,117 @@ pub fn seek(
         Seeking::To(moved) => {
             put_channel_record(channel_records, c, moved);
             Sought::At(moved.position)
+        }
+    }
+}
+
+// A channel with its position n further.
+pub fn moved_by(channel: ChannelRecord, n: usize) -> ChannelRecord
+    requires { ⌜ channel .position + n < 4294967296 ⌝ }
+    ensures { λ r. ⌜ r ≡ movedBy channel n ⌝ }
+{
+    let file = channel.file;
+    let position = channel.position as usize + n;
+    ChannelRecord {
+        file,
+        position: position as u32,
+    }
+}
+
+// Reads as many bytes as the file has after the position and the buffer holds. It answers how many, and the position moves by that.
+pub fn read(
+    blocks: &[u8],
+    block_records: &[u8],
+    file_records: &[u8],
+    channel_records: &mut [u8],
+    c: ChannelNo,
+    buffer: &mut [u8],
+) -> Counted
+    ensures { λ r. ⌜ KeepsInto (Call.Read (c .0) (length (now (buffer .entry)))) blocks «block_records» «file_records» «channel_records» buffer (counted r) ⌝ }
+{
+    let held = held_channel(blocks, block_records, file_records, channel_records, c);
+    match held {
+        Held::Refused(why) => Counted::Refused(why),
+        Held::Open(channel) => {
+            let f = channel.file;
+            let n = read_file(
+                blocks,
+                block_records,
+                file_records,
+                f,
+                channel.position,
+                buffer,
+            );
+            let count = n as usize;
+            let next = moved_by(channel, count);
+            put_channel_record(channel_records, c, next);
+            Counted::Of(n)
+        }
+    }
+}
+
+// What close decides: the channel alone goes, its file goes with it, or a refusal.
+pub enum Closing {
+    Alone,
+    WithFile(FileNo),
+    No(Report),
+}
+
+// The file of an open channel goes with it where it is ordinary, no other channel holds it and no record names it.
+fn decide_close(
+    blocks: &[u8],
+    block_records: &[u8],
+    file_records: &[u8],
+    channel_records: &[u8],
+    c: ChannelNo,
+) -> Closing
+    ensures { λ r. ⌜ Closes (entered blocks «block_records» «file_records» «channel_records») (c .0) r ⌝ }
+{
+    let held = held_channel(blocks, block_records, file_records, channel_records, c);
+    match held {
+        Held::Refused(why) => Closing::No(why),
+        Held::Open(channel) => {
+            let f = channel.file;
+            let record = file_record(file_records, f);
+            if record.kind != 1 {
+                return Closing::Alone;
+            }
+            if count_channels(channel_records, f) != 1 {
+                return Closing::Alone;
+            }
+            if names_of(blocks, block_records, file_records, f) != 0 {
+                return Closing::Alone;
+            }
+            Closing::WithFile(f)
+        }
+    }
+}
+
+// Closes a channel. An ordinary file with neither a name nor a channel goes with it.
+pub fn close(
+    blocks: &[u8],
+    block_records: &mut [u8],
+    file_records: &mut [u8],
+    channel_records: &mut [u8],
+    c: ChannelNo,
+) -> Report
+    ensures { λ r. ⌜ Keeps (Call.Close (c .0)) blocks «block_records» «file_records» «channel_records» (reported r) ⌝ }
+{
+    let free = ChannelRecord {
+        file: FileNo(0),
+        position: 0,
+    };
+    let decided = decide_close(blocks, block_records, file_records, channel_records, c);
+    match decided {
+        Closing::No(why) => why,
+        Closing::Alone => {
+            put_channel_record(channel_records, c, free);
+            Report::Ok
+        }
+        Closing::WithFile(f) => {
+            put_channel_record(channel_records, c, free);
+            clear_file(block_records, file_records, f, 0, 0);
+            Report::Ok
         }
     }
 }

@@ -1,6 +1,6 @@
 -- Link: what its decision stands for.
 use Prim.Native.Nat.{ℕ, _-_, _≤_}
-use mathlib.Core.Path.{_≡_}
+use mathlib.Core.Path.{_≡_, subst}
 use mathlib.Core.List.{List, [], _∷_}
 use mathlib.Core.Bool.{Bool, true, false, not, _&&_}
 use mathlib.Core.Option.{some}
@@ -14,6 +14,7 @@ use Rattle.meaning.specs.Sound.{sound}
 use Rattle.meaning.specs.Result.{refused, missing, nowhere}
 use Rattle.meaning.specs.NameCalls.{parent, recordFor, naming}
 use Rattle.meaning.specs.Run.{Call, resultOf}
+use Rattle.meaning.specs.declared.Report.{Report}
 use Rattle.linking.specs.Names.{Both}
 use Rattle.linking.specs.declared.Plan.{Plan}
 use Rattle.linking.specs.declared.Linking.{Linking}
@@ -36,6 +37,16 @@ pub record Accepted (t : Tables) (old new : List ℕ) (p : Plan) : Type 0 where
       - needed (length (storeOf t .file (parent (storeOf t) (both .new-name .at .name)) .bytes)) ≤ freeBlocks (storeOf t)
   pub alone : p .lone ≡ lone (storeOf t) (p .to .file .0)
 
-abbrev pub Decided : Tables → List ℕ → List ℕ → Linking → Type 0
+abbrev Decided : Tables → List ℕ → List ℕ → Linking → Type 0
 Decided t old new (Of p) = Accepted t old new p
 Decided t old new (No why) = refused why ≡ resultOf (Call.Link old new) t
+
+pub record Decides (t : Tables) (old new : List ℕ) (d : Linking) : Type 0 where
+  pub case : Decided t old new d
+
+module _ (t : Tables) (old new : List ℕ) (d : Linking) (decides : Decides t old new d) where
+  pub refuses-link : (why : Report) → d ≡ No why → refused why ≡ resultOf (Call.Link old new) t
+  refuses-link why e = subst (Decided t old new) e (decides .case)
+
+  pub accepts-link : (p : Plan) → d ≡ Of p → Accepted t old new p
+  accepts-link p e = subst (Decided t old new) e (decides .case)

@@ -8,6 +8,7 @@ use mathlib.Core.Option.{some}
 use native.Mathlib.Omega.{arith}
 use lib.ListN.{length}
 use lib.Dec.{ltb, eqb}
+use borrow.Author.Tests.{le-ltb}
 use Rattle.records.specs.Tests.{same-or-not}
 use Rattle.meaning.specs.File.{needed, longest}
 use Rattle.meaning.specs.Name.{syllables, entry, written, recordCount, recordNamed, recordForNew}
@@ -30,6 +31,7 @@ use Rattle.soundness.specs.WellFacts.{directory-form}
 use Rattle.soundness.specs.Seen.{filesStore, isDirectory-seen}
 use Rattle.lookup.specs.Filed.{filed, sound-well, shelves, bytes-seen, directory-seen}
 use Rattle.trees.specs.Standing.{Place, some-syllable}
+use Rattle.trees.specs.Naming.{withName}
 use Rattle.keeping.specs.Sure.{Sized}
 use Rattle.keeping.specs.OnChannels.{named-used}
 use Rattle.keeping.specs.Named.{plain-other, plain-place}
@@ -38,7 +40,9 @@ use Rattle.naming.specs.At.{At, named-seen, is-missing, not-missing, file-direc
 use Rattle.naming.specs.declared.Located.{Located}
 use Rattle.linking.specs.Names.{Here, Both, FindsNames, onNames, names-refused, names-both}
 use Rattle.linking.specs.Fit.{FitsIn, ifFitsIn}
-use Rattle.linking.specs.Link.{lone, Accepted}
+use Rattle.linking.specs.Link.{lone, Accepted, Decides}
+use Rattle.linking.specs.declared.Linking.the-variants as L
+use Rattle.linking.specs.declared.Plan.{Plan}
 use Rattle.linking.specs.declared.Names.{Names}
 use Rattle.linking.specs.declared.Names.the-variants.{Found, Refused}
 use Rattle.linking.specs.declared.Fit.{Fit}
@@ -87,9 +91,19 @@ link-refusal : (t : Tables) (old new : List ℕ) (why : Report) → ((rest : Lis
     → refused why ≡ resultOf (Call.Link old new) t
 link-refusal t old new why e = e (linkRest t) ∙ on-link t old new
 
+-- where no cause holds, link gives its changes
+pub link-on : (t : Tables) (old new : List ℕ) (p : Plan) (a : Accepted t old new p)
+    → done [] [] (file (parent (storeOf t) (a .both .new-name .at .name)) (naming (storeOf t) (a .both .new-name .at .name) (named (storeOf t) (a .both .old-name .at .name)))
+    ∷ letGo (withName (storeOf t) (a .both .new-name .at .name) (named (storeOf t) (a .both .old-name .at .name))) (named (storeOf t) (a .both .new-name .at .name)))
+    ≡ resultOf (Call.Link old new) t
+unfolding unless ifNamingFits ifFits
+link-on t old new p a =
+    rw (a .there, a .ordinary, a .here, a .plain, le-ltb longest _ (a .size), le-ltb (freeBlocks (storeOf t)) _ (a .room))
+    at (follows-both t old new (p .from) (p .to) (a .both) (linkRest t) ∙ on-link t old new)
+
 module _ (b br fr cr old new : List ℕ) (names : Names) (on : FindsNames (tables b br fr cr) old new names) where
-  pub no-names : (why : Report) → names ≡ Refused why → refused why ≡ resultOf (Call.Link old new) (tables b br fr cr)
-  no-names why e = link-refusal (tables b br fr cr) old new why (names-refused (tables b br fr cr) old new names on why e)
+  pub no-names : (why : Report) → names ≡ Refused why → Decides (tables b br fr cr) old new (L.No why)
+  no-names why e = record { case = link-refusal (tables b br fr cr) old new why (names-refused (tables b br fr cr) old new names on why e) }
 
 module _ (b br fr cr old new : List ℕ) (names : Names) (on : FindsNames (tables b br fr cr) old new names) (x y : Located) (found : names ≡ Found x y) where
   both : Both (tables b br fr cr) old new x y
@@ -119,9 +133,9 @@ module _ (b br fr cr old new : List ℕ) (names : Names) (on : FindsNames (table
   size-of : Sized s
   size-of = sized t (both .new-name .at .ok)
 
-  pub no-old : x .file .0 ≡ 0 → refused NoSuchName ≡ resultOf (Call.Link old new) t
+  pub no-old : x .file .0 ≡ 0 → Decides t old new (L.No NoSuchName)
   unfolding unless
-  no-old e = rw (is-missing t old (both .old-name .k) x (both .old-name .at) e) at link-given
+  no-old e = record { case = rw (is-missing t old (both .old-name .k) x (both .old-name .at) e) at link-given }
 
   -- the old name stands for something
   module _ (some-file : x .file .0 ≢ 0) (v : Bool) (is-v : v ≡ isDirectory (filesStore fr) (x .file .0)) where
@@ -131,9 +145,9 @@ module _ (b br fr cr old new : List ℕ) (names : Names) (on : FindsNames (table
     old-is : isDirectory s (named s from) ≡ v
     old-is = file-directory t old (both .old-name .k) x (both .old-name .at) v is-v
 
-    pub old-directory : v ≡ true → refused IsDirectory ≡ resultOf (Call.Link old new) t
+    pub old-directory : v ≡ true → Decides t old new (L.No IsDirectory)
     unfolding unless
-    old-directory e = let d : isDirectory s (named s from) ≡ true = old-is ∙ e in rw (there, d) at link-given
+    old-directory e = let d : isDirectory s (named s from) ≡ true = old-is ∙ e in record { case = rw (there, d) at link-given }
 
     -- an ordinary file
     module _ (ordinary-v : v ≡ false) (w : Bool) (is-w : w ≡ eqb (y .file .0) 0 && not (isDirectory (filesStore fr) (y .parent .0))) where
@@ -143,9 +157,9 @@ module _ (b br fr cr old new : List ℕ) (names : Names) (on : FindsNames (table
       new-is : nowhere s to ≡ w
       new-is = nowhere-is t new (both .new-name .k) y (both .new-name .at) w is-w
 
-      pub new-nowhere : w ≡ true → refused NoSuchName ≡ resultOf (Call.Link old new) t
+      pub new-nowhere : w ≡ true → Decides t old new (L.No NoSuchName)
       unfolding unless
-      new-nowhere e = let d : nowhere s to ≡ true = new-is ∙ e in rw (there, ordinary, d) at link-given
+      new-nowhere e = let d : nowhere s to ≡ true = new-is ∙ e in record { case = rw (there, ordinary, d) at link-given }
 
       -- the new name can be given
       module _ (here-w : w ≡ false) (u : Bool) (is-u : u ≡ isDirectory (filesStore fr) (y .file .0)) where
@@ -155,9 +169,9 @@ module _ (b br fr cr old new : List ℕ) (names : Names) (on : FindsNames (table
         to-is : isDirectory s (named s to) ≡ u
         to-is = file-directory t new (both .new-name .k) y (both .new-name .at) u is-u
 
-        pub new-directory : u ≡ true → refused IsDirectory ≡ resultOf (Call.Link old new) t
+        pub new-directory : u ≡ true → Decides t old new (L.No IsDirectory)
         unfolding unless
-        new-directory e = let d : isDirectory s (named s to) ≡ true = to-is ∙ e in rw (there, ordinary, here, d) at link-given
+        new-directory e = let d : isDirectory s (named s to) ≡ true = to-is ∙ e in record { case = rw (there, ordinary, here, d) at link-given }
 
         module _ (plain-u : u ≡ false) where
           plain : isDirectory s (named s to) ≡ false
@@ -194,9 +208,6 @@ module _ (b br fr cr old new : List ℕ) (names : Names) (on : FindsNames (table
               omega (arith, u .within, both .new-name .at .stands))
               (same-or-not (y .file .0) 0)
 
-          pub replaced-low : y .file .0 ≤ 64
-          replaced-low = omega (arith, replaced-few, sound-layout t (both .new-name .at .ok) .lengths .few-files)
-
           -- its record
           module _ (i : ℕ) (recorded : Recorded (filed b br fr) new i) where
             place-is : i ≡ recordFor s to
@@ -229,21 +240,23 @@ module _ (b br fr cr old new : List ℕ) (names : Names) (on : FindsNames (table
             fits-is r = rw (dir-size, new-size, free-is)
 
             module _ (fit : Fit) (fits : FitsIn (freeBlockCount br) size (max size (16 * i + 16)) fit) where
-              pub no-fit : (why : Report) → fit ≡ No why → refused why ≡ resultOf (Call.Link old new) t
+              pub no-fit : (why : Report) → fit ≡ No why → Decides t old new (L.No why)
               unfolding unless
-              no-fit why e = subst (FitsIn (freeBlockCount br) size (max size (16 * i + 16))) e fits _ ∙ sym (fits-is _) ∙ (rw (there, ordinary, here, plain) at link-given)
+              no-fit why e = record { case = subst (FitsIn (freeBlockCount br) size (max size (16 * i + 16))) e fits _ ∙ sym (fits-is _) ∙ (rw (there, ordinary, here, plain) at link-given) }
 
-              pub accepted : fit ≡ Fits → (l : Bool) → l ≡ lone s (y .file .0) → Accepted t old new (record { from = x; to = y; place = i; lone = l })
+              pub accepted : fit ≡ Fits → (l : Bool) → l ≡ lone s (y .file .0) → Decides t old new (L.Of (record { from = x; to = y; place = i; lone = l }))
               accepted e l is-l =
                   let f = subst (FitsIn (freeBlockCount br) size (max size (16 * i + 16))) e fits in
                   record {
-                    both = both;
-                    there = there;
-                    ordinary = ordinary;
-                    here = here;
-                    plain = plain;
-                    place = place-is;
-                    size = rw new-size (f .0);
-                    room = rw (new-size, dir-size, ← free-is) (f .1);
-                    alone = is-l;
+                    case = record {
+                      both = both;
+                      there = there;
+                      ordinary = ordinary;
+                      here = here;
+                      plain = plain;
+                      place = place-is;
+                      size = rw new-size (f .0);
+                      room = rw (new-size, dir-size, ← free-is) (f .1);
+                      alone = is-l;
+                    };
                   }

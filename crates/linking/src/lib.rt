@@ -1,4 +1,6 @@
 // The calls on two names.
+use counts::names_of;
+use files::clear_file;
 use meaning::FileNo;
 use meaning::Report;
 use names::NameForm;
@@ -8,8 +10,8 @@ use naming::Located;
 use naming::judge_name;
 use naming::locate;
 use naming::record_for;
+use recording::give_name;
 use soundness::is_directory;
-use soundness::names_of;
 use tables::count_free_blocks;
 use tables::file_record;
 use tables::is_held;
@@ -18,14 +20,16 @@ ghost use mathlib.Core.Bool.{true, not, _&&_};
 ghost use Prim.Native.Nat.{_+_, _*_, _≤_, _<_, max};
 ghost use lib.Dec.{eqb};
 ghost use Rattle.meaning.specs.Store.{isDirectory};
-ghost use Rattle.meaning.specs.Tables.{tables, storeOf, fileLength};
+ghost use Rattle.meaning.specs.Tables.{tables, storeOf, fileCount, fileLength};
 ghost use Rattle.meaning.specs.Sound.{sound};
-ghost use Rattle.meaning.specs.Run.{entered};
+ghost use Rattle.meaning.specs.Run.{Keeps, Call, entered};
+ghost use Rattle.meaning.specs.Answers.{reported};
 ghost use Rattle.soundness.specs.Seen.{filesStore};
 ghost use Rattle.tables.specs.Searches.{freeBlockCount};
 ghost use Rattle.linking.specs.Names.{FindsNames};
 ghost use Rattle.linking.specs.Fit.{FitsIn};
-ghost use Rattle.linking.specs.Link.{lone, Decided};
+ghost use Rattle.linking.specs.Link.{lone, Decides};
+ghost use Rattle.linking.specs.Act.{goes, Linkable, Links};
 
 // Two names located, or the refusal that comes before any other of a call on two names.
 pub enum Names {
@@ -105,7 +109,7 @@ fn is_lone(
     channel_records: &[u8],
     g: FileNo,
 ) -> bool
-    requires { ⌜ sound (tables (now blocks) (now «block_records») (now «file_records») (now «channel_records»)) ≡ true ⌝ ∗ ⌜ g .0 ≤ 64 ⌝ }
+    requires { ⌜ sound (tables (now blocks) (now «block_records») (now «file_records») (now «channel_records»)) ≡ true ⌝ ∗ ⌜ g .0 ≤ fileCount (now «file_records») ⌝ }
     ensures { λ r. ⌜ r ≡ lone (storeOf (entered blocks «block_records» «file_records» «channel_records»)) (g .0) ⌝ }
 {
     if g.0 == 0 {
@@ -140,7 +144,7 @@ fn decide_link(
     old: &[u8],
     new: &[u8],
 ) -> Linking
-    ensures { λ r. ⌜ Decided (entered blocks «block_records» «file_records» «channel_records») (now (old .entry)) (now (new .entry)) r ⌝ }
+    ensures { λ r. ⌜ Decides (entered blocks «block_records» «file_records» «channel_records») (now (old .entry)) (now (new .entry)) r ⌝ }
 {
     let names = find_names(
         blocks,
@@ -181,6 +185,70 @@ fn decide_link(
                     })
                 }
             }
+        }
+    }
+}
+
+// Whether the file that the new name stood for goes: it is another file, with no other name and no channel.
+fn replaced_goes(plan: Plan) -> bool
+    ensures { λ r. ⌜ r ≡ goes plan ⌝ }
+{
+    if plan.to.file.0 == plan.from.file.0 {
+        return false;
+    }
+    plan.lone
+}
+
+// The new name's record given to the old name's file, and the file that it stood for let go.
+fn make_link(
+    blocks: &mut [u8],
+    block_records: &mut [u8],
+    file_records: &mut [u8],
+    new: &[u8],
+    plan: Plan,
+)
+    requires { ⌜ Linkable (now blocks) (now «block_records») (now «file_records») (now new) plan ⌝ }
+    ensures { λ r. ⌜ Links blocks «block_records» «file_records» (now (new .entry)) plan ⌝ }
+{
+    give_name(
+        blocks,
+        block_records,
+        file_records,
+        plan.to.parent,
+        plan.place,
+        plan.from.file,
+        new,
+    );
+    if !replaced_goes(plan) {
+        return;
+    }
+    clear_file(block_records, file_records, plan.to.file, 0, 0);
+}
+
+// A new name for the file that an old name stands for; what the new name stood for is replaced.
+pub fn link(
+    blocks: &mut [u8],
+    block_records: &mut [u8],
+    file_records: &mut [u8],
+    channel_records: &[u8],
+    old: &[u8],
+    new: &[u8],
+) -> Report
+    ensures { λ r. ⌜ Keeps (Call.Link (now (old .entry)) (now (new .entry))) blocks «block_records» «file_records» «channel_records» (reported r) ⌝ }
+{
+    let decided = decide_link(
+        blocks,
+        block_records,
+        file_records,
+        channel_records,
+        old,
+        new,
+    );
+    match decided {
+        Linking::No(why) => why,
+        Linking::Of(plan) => {
+            make_link(blocks, block_records, file_records, new, plan);
+            Report::Ok
         }
     }
 }

@@ -9,9 +9,9 @@ use Rattle.meaning.specs.Tables.{Tables, storeOf}
 use Rattle.meaning.specs.Sound.{layoutSound, filesSound, channelsSound, directoriesSound, isNamed, namesSound, wellFormed, sound}
 use Rattle.soundness.specs.Use.{both-ways}
 use Rattle.soundness.specs.Seen.{channelsStore, channelsSound-seen}
-use Rattle.soundness.specs.Slots.{directoriesStore, Placed}
+use Rattle.soundness.specs.Slots.{directoriesStore}
 use Rattle.soundness.specs.DirectoryRules.{directoriesRule}
-use Rattle.soundness.specs.SoundLaws.{tablesSound, tables-placed}
+use Rattle.soundness.specs.SoundLaws.{tablesSound}
 use Rattle.soundness.specs.NamesSeen.{deeperSound, directories-rules, directoriesRule-seen}
 
 module _ (t : Tables) where
@@ -54,11 +54,3 @@ module _ (t : Tables) where
       let (recorded, deeper) = both (directoriesSound (storeOf t)) (deeperSound (storeOf t)) (sym directories-seen ∙ directories) in
       and-both (layoutSound t) (wellFormed (storeOf t)) laid
       (true-allOf wellRules (files, (channelsSound-seen t ∙ channels, (recorded, (and-both (deeperSound (storeOf t)) namedSound deeper each, tt))))))
-
--- what counting names leans on
-module _ (t : Tables) (ok : sound t ≡ true) where
-  pub sound-placed : Placed (t .blocks) (t .blockRecords) (t .fileRecords)
-  sound-placed = tables-placed t (allOf-true (soundRules t) (sym (sound-rules t) ∙ ok) .0)
-
-  pub sound-directories : directoriesRule (directoriesStore (t .blocks) (t .blockRecords) (t .fileRecords)) ≡ true
-  sound-directories = allOf-true (soundRules t) (sym (sound-rules t) ∙ ok) .1 .1 .0

@@ -16,7 +16,7 @@ ghost use lib.ListN.{length};
 ghost use Rattle.records.specs.Rows.{every};
 ghost use Rattle.records.specs.Numbers.{zeros};
 ghost use Rattle.meaning.specs.Name.{nameEnd, isWritten, same, entryIn, entryAt};
-ghost use Rattle.meaning.specs.Store.{inUse, isDirectory, names};
+ghost use Rattle.meaning.specs.Store.{inUse, isDirectory};
 ghost use Rattle.meaning.specs.Tables.{tables, blockCount, fileCount, channelCount, lengthAt};
 ghost use Rattle.meaning.specs.Sound.{lengthsAgree, blockSound, placedOnce, fileSound, filesSound, channelSound, channelsSound, recordSound, sound};
 ghost use Rattle.names.specs.RecordNames.{recordFrom};
@@ -252,7 +252,7 @@ fn counts_to(n: usize, most: usize) -> bool
 }
 
 // Whether the tables' lengths agree with one count of blocks, files and channels each, all in range.
-fn lengths_agree(
+pub fn lengths_agree(
     blocks: &[u8],
     block_records: &[u8],
     file_records: &[u8],
@@ -518,7 +518,7 @@ fn add_names(
 }
 
 // How many records name each file, over all directories.
-fn count_names(blocks: &[u8], block_records: &[u8], file_records: &[u8]) -> [u32; 65]
+pub fn count_names(blocks: &[u8], block_records: &[u8], file_records: &[u8]) -> [u32; 65]
     requires { ⌜ Placed (now blocks) (now «block_records») (now «file_records») ⌝ ∗ ⌜ directoriesRule (directoriesStore (now blocks) (now «block_records») (now «file_records»)) ≡ true ⌝ }
     ensures { λ b. ⌜ Counts (directoriesStore (now (blocks .entry)) (now («block_records» .entry)) (now («file_records» .entry))) (fileCount (now («file_records» .entry))) b ⌝ }
 {
@@ -530,16 +530,6 @@ fn count_names(blocks: &[u8], block_records: &[u8], file_records: &[u8]) -> [u32
         r += 1;
     }
     counts
-}
-
-// How many records name file f, over all directories.
-pub fn names_of(blocks: &[u8], block_records: &[u8], file_records: &[u8], f: FileNo) -> u32
-    requires { ⌜ Placed (now blocks) (now «block_records») (now «file_records») ⌝ ∗ ⌜ directoriesRule (directoriesStore (now blocks) (now «block_records») (now «file_records»)) ≡ true ⌝ ∗ ⌜ f .0 ≤ 64 ⌝ }
-    ensures { λ r. ⌜ r ≡ names (directoriesStore (now (blocks .entry)) (now («block_records» .entry)) (now («file_records» .entry))) (f .0) ⌝ }
-{
-    let counts = count_names(blocks, block_records, file_records);
-    let k = f.0 as usize;
-    counts[k]
 }
 
 // Whether file f has the names or the channel that it needs, where `count` records name it.

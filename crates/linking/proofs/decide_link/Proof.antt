@@ -10,7 +10,7 @@ use Rattle.meaning.specs.Result.{refused}
 use Rattle.meaning.specs.Run.{Call, resultOf}
 use Rattle.meaning.specs.declared.Report.{Report}
 use Rattle.naming.specs.declared.Located.{Located}
-use Rattle.linking.specs.LinkLaws.{no-names, no-old, old-directory, new-nowhere, new-directory, is-sound, in-place, here-directory, few-records, replaced-low, no-fit, accepted}
+use Rattle.linking.specs.LinkLaws.{no-names, no-old, old-directory, new-nowhere, new-directory, is-sound, in-place, here-directory, few-records, replaced-few, no-fit, accepted}
 use Rattle.linking.specs.declared.Names.{Names}
 use Rattle.linking.specs.declared.Names.the-variants.{Found, Refused}
 use Rattle.linking.proofs.decide_link.Statement.{statement}
@@ -73,7 +73,7 @@ enum-told c = search needs
 is-lone-requires : tie.Need-is-lone-requires
 is-lone-requires c κs =
     let names = c .before .before .before .before .before .before .before .before .before .before .before .before .before .before .before .before .before .find-names .ensures in
-    (search (is-sound _ _ _ _ _ _ _ names), search (replaced-low _ _ _ _ _ _ _ names))
+    (search (is-sound _ _ _ _ _ _ _ names), search (replaced-few _ _ _ _ _ _ _ names))
 
 returns-5 : tie.Need-returns-5
 returns-5 c = search no-names

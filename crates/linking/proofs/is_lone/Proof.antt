@@ -9,24 +9,19 @@ use borrow.Author.Needs.{needs}
 use borrow.Author.Tests.{eq-eqb, ne-eqb}
 use Rattle.records.specs.Tests.{and-false}
 use Rattle.meaning.specs.Store.{names, held}
-use Rattle.meaning.specs.Tables.{tables, storeOf}
+use Rattle.meaning.specs.Tables.{tables, storeOf, fileCount}
 use Rattle.meaning.specs.Sound.{sound}
 use Rattle.tables.specs.Searches.{channelsWith}
 use Rattle.tables.specs.StoreLaws.{held-channels}
-use Rattle.soundness.specs.Slots.{directoriesStore, Placed}
-use Rattle.soundness.specs.DirectoryRules.{directoriesRule}
-use Rattle.soundness.specs.SoundRules.{sound-placed, sound-directories}
+use Rattle.counts.specs.OfStore.{OfStore, of-store}
 use Rattle.lookup.specs.Filed.{filed, names-seen}
 use Rattle.linking.specs.Link.{lone}
 use Rattle.linking.proofs.is_lone.Statement.{statement}
 use Rattle.linking.proofs.is_lone.Tie as tie
 
 module _ (b br fr cr : List ℕ) (g : ℕ) where
-  placed : sound (tables b br fr cr) ≡ true → Placed b br fr
-  placed ok = sound-placed (tables b br fr cr) ok
-
-  ruled : sound (tables b br fr cr) ≡ true → directoriesRule (directoriesStore b br fr) ≡ true
-  ruled ok = sound-directories (tables b br fr cr) ok
+  of-tables : sound (tables b br fr cr) ≡ true → g ≤ fileCount fr → OfStore b br fr g
+  of-tables ok last = of-store (tables b br fr cr) ok g last
 
   no-file : g ≡ 0 → false ≡ lone (storeOf (tables b br fr cr)) g
   unfolding lone
@@ -62,7 +57,7 @@ returns-2 : tie.Need-returns-2
 returns-2 c = search is-kept
 
 names-of-requires : tie.Need-names-of-requires
-names-of-requires c κs = (search placed, (search ruled, search needs))
+names-of-requires c κs = search of-tables
 
 returns-3 : tie.Need-returns-3
 returns-3 c = search one-name
