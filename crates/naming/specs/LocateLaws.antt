@@ -40,7 +40,7 @@ module _ (bytes : List ℕ) (k : ℕ) (c : Counted (syllables bytes) k) where
   reaches-front = read bytes (c .name) (c .is) .reaches (k - 1) (omega (arith, c .count))
 
   -- the last syllable is the part from its start to the name's end
-  last-part : k ≢ 0 → last (c .name) ≡ part bytes (lastStart bytes) (length bytes)
+  pub last-part : k ≢ 0 → last (c .name) ≡ part bytes (lastStart bytes) (length bytes)
   unfolding part
   last-part some′ =
       let all : take (length bytes - lastStart bytes) (drop (lastStart bytes) bytes) ≡ drop (lastStart bytes) bytes =

@@ -1,0 +1,254 @@
+// The calls on two names.
+use counts::names_of;
+use files::clear_file;
+use meaning::FileNo;
+use meaning::Report;
+use names::NameForm;
+use names::name_form;
+use naming::Judged;
+use naming::Located;
+use naming::judge_name;
+use naming::locate;
+use naming::record_for;
+use recording::give_name;
+use soundness::is_directory;
+use tables::count_free_blocks;
+use tables::file_record;
+use tables::is_held;
+ghost use mathlib.Core.Path.{_≡_};
+ghost use mathlib.Core.Bool.{true, not, _&&_};
+ghost use Prim.Native.Nat.{_+_, _*_, _≤_, _<_, max};
+ghost use lib.Dec.{eqb};
+ghost use Rattle.meaning.specs.Store.{isDirectory};
+ghost use Rattle.meaning.specs.Tables.{tables, storeOf, fileCount, fileLength};
+ghost use Rattle.meaning.specs.Sound.{sound};
+ghost use Rattle.meaning.specs.Run.{Keeps, Call, entered};
+ghost use Rattle.meaning.specs.Answers.{reported};
+ghost use Rattle.soundness.specs.Seen.{filesStore};
+ghost use Rattle.tables.specs.Searches.{freeBlockCount};
+ghost use Rattle.linking.specs.Names.{FindsNames};
+ghost use Rattle.linking.specs.Fit.{FitsIn};
+ghost use Rattle.linking.specs.Link.{lone, Decides};
+ghost use Rattle.linking.specs.Act.{goes, Linkable, Links};
+
+// Two names located, or the refusal that comes before any other of a call on two names.
+pub enum Names {
+    Found(Located, Located),
+    Refused(Report),
+}
+
+// Two names judged, the old one first, and located.
+fn find_names(
+    blocks: &[u8],
+    block_records: &[u8],
+    file_records: &[u8],
+    channel_records: &[u8],
+    old: &[u8],
+    new: &[u8],
+) -> Names
+    ensures { λ r. ⌜ FindsNames (entered blocks «block_records» «file_records» «channel_records») (now (old .entry)) (now (new .entry)) r ⌝ }
+{
+    let judged = judge_name(blocks, block_records, file_records, channel_records, old);
+    match judged {
+        Judged::Refused(why) => Names::Refused(why),
+        Judged::Syllables(j) => {
+            let form = name_form(new);
+            match form {
+                NameForm::Bad => Names::Refused(Report::BadName),
+                NameForm::Syllables(k) => {
+                    let from = locate(blocks, block_records, file_records, old, j);
+                    let to = locate(blocks, block_records, file_records, new, k);
+                    Names::Found(from, to)
+                }
+            }
+        }
+    }
+}
+
+// Whether a name stands for nothing and its directory is not there.
+fn is_nowhere(file_records: &[u8], at: Located) -> bool
+    ensures { λ r. ⌜ r ≡ eqb (at .file .0) 0 && not (isDirectory (filesStore (now («file_records» .entry))) (at .parent .0)) ⌝ }
+{
+    if at.file.0 != 0 {
+        return false;
+    }
+    !is_directory(file_records, at.parent)
+}
+
+// A directory has room for a record, or the refusal where it has none.
+pub enum Fit {
+    Fits,
+    No(Report),
+}
+
+// Whether directory d has room for its record i. Only a record past the end asks for any.
+fn record_fits(block_records: &[u8], file_records: &[u8], d: FileNo, i: usize) -> Fit
+    requires { ⌜ isDirectory (filesStore (now «file_records»)) (d .0) ≡ true ⌝ ∗ ⌜ (fileLength (now «file_records») (d .0) ≤ 32768) × (i ≤ 2048) ⌝ }
+    ensures { λ r. ⌜ FitsIn (freeBlockCount (now («block_records» .entry))) (fileLength (now («file_records» .entry)) (d .0)) (max (fileLength (now («file_records» .entry)) (d .0)) (16 * i + 16)) r ⌝ }
+{
+    let size = file_record(file_records, d).length as usize;
+    let end = 16 * i + 16;
+    if end <= size {
+        return Fit::Fits;
+    }
+    if 32768 < end {
+        return Fit::No(Report::TooBig);
+    }
+    let free = count_free_blocks(block_records);
+    if free < (end + 511) / 512 - (size + 511) / 512 {
+        return Fit::No(Report::NoRoom);
+    }
+    Fit::Fits
+}
+
+// Whether g is a file with one name and no channel.
+fn is_lone(
+    blocks: &[u8],
+    block_records: &[u8],
+    file_records: &[u8],
+    channel_records: &[u8],
+    g: FileNo,
+) -> bool
+    requires { ⌜ sound (tables (now blocks) (now «block_records») (now «file_records») (now «channel_records»)) ≡ true ⌝ ∗ ⌜ g .0 ≤ fileCount (now «file_records») ⌝ }
+    ensures { λ r. ⌜ r ≡ lone (storeOf (entered blocks «block_records» «file_records» «channel_records»)) (g .0) ⌝ }
+{
+    if g.0 == 0 {
+        return false;
+    }
+    if is_held(channel_records, g) {
+        return false;
+    }
+    names_of(blocks, block_records, file_records, g) == 1
+}
+
+// How link goes: both names, where the new one's record is or goes, and whether the file that the new name stood for,
+// if any, has no other name and no channel.
+pub struct Plan {
+    pub from: Located,
+    pub to: Located,
+    pub place: usize,
+    pub lone: bool,
+}
+
+pub enum Linking {
+    Of(Plan),
+    No(Report),
+}
+
+// The refusals of link in their order, or how it goes.
+fn decide_link(
+    blocks: &[u8],
+    block_records: &[u8],
+    file_records: &[u8],
+    channel_records: &[u8],
+    old: &[u8],
+    new: &[u8],
+) -> Linking
+    ensures { λ r. ⌜ Decides (entered blocks «block_records» «file_records» «channel_records») (now (old .entry)) (now (new .entry)) r ⌝ }
+{
+    let names = find_names(
+        blocks,
+        block_records,
+        file_records,
+        channel_records,
+        old,
+        new,
+    );
+    match names {
+        Names::Refused(why) => Linking::No(why),
+        Names::Found(from, to) => {
+            let f = from.file;
+            if f.0 == 0 {
+                return Linking::No(Report::NoSuchName);
+            }
+            if is_directory(file_records, f) {
+                return Linking::No(Report::IsDirectory);
+            }
+            if is_nowhere(file_records, to) {
+                return Linking::No(Report::NoSuchName);
+            }
+            let g = to.file;
+            if is_directory(file_records, g) {
+                return Linking::No(Report::IsDirectory);
+            }
+            let place = record_for(blocks, block_records, file_records, new, to);
+            let fit = record_fits(block_records, file_records, to.parent, place);
+            match fit {
+                Fit::No(why) => Linking::No(why),
+                Fit::Fits => {
+                    let lone = is_lone(blocks, block_records, file_records, channel_records, g);
+                    Linking::Of(Plan {
+                        from,
+                        to,
+                        place,
+                        lone,
+                    })
+                }
+            }
+        }
+    }
+}
+
+// Whether the file that the new name stood for goes: it is another file, with no other name and no channel.
+fn replaced_goes(plan: Plan) -> bool
+    ensures { λ r. ⌜ r ≡ goes plan ⌝ }
+{
+    if plan.to.file.0 == plan.from.file.0 {
+        return false;
+    }
+    plan.lone
+}
+
+// The new name's record given to the old name's file, and the file that it stood for let go.
+fn make_link(
+    blocks: &mut [u8],
+    block_records: &mut [u8],
+    file_records: &mut [u8],
+    new: &[u8],
+    plan: Plan,
+)
+    requires { ⌜ Linkable (now blocks) (now «block_records») (now «file_records») (now new) plan ⌝ }
+    ensures { λ r. ⌜ Links blocks «block_records» «file_records» (now (new .entry)) plan ⌝ }
+{
+    give_name(
+        blocks,
+        block_records,
+        file_records,
+        plan.to.parent,
+        plan.place,
+        plan.from.file,
+        new,
+    );
+    if !replaced_goes(plan) {
+        return;
+    }
+    clear_file(block_records, file_records, plan.to.file, 0, 0);
+}
+
+// A new name for the file that an old name stands for; what the new name stood for is replaced.
+pub fn link(
+    blocks: &mut [u8],
+    block_records: &mut [u8],
+    file_records: &mut [u8],
+    channel_records: &[u8],
+    old: &[u8],
+    new: &[u8],
+) -> Report
+    ensures { λ r. ⌜ Keeps (Call.Link (now (old .entry)) (now (new .entry))) blocks «block_records» «file_records» «channel_records» (reported r) ⌝ }
+{
+    let decided = decide_link(
+        blocks,
+        block_records,
+        file_records,
+        channel_records,
+        old,
+        new,
+    );
+    match decided {
+        Linking::No(why) => why,
+        Linking::Of(plan) => {
+            make_link(blocks, block_records, file_records, new, plan);
+            Report::Ok
+        }
+    }
+}
