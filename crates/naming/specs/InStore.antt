@@ -1,0 +1,63 @@
+-- A located name's record, found in three tables, is its record in the store; and what is refused before it is located.
+use Prim.Native.Nat.{ℕ}
+use mathlib.Core.Path.{_≡_, refl, ap, sym, _∙_}
+use mathlib.Core.Logic.{_≢_}
+use mathlib.Core.List.{List, []}
+use mathlib.Core.Bool.{Bool, true, false, not}
+use mathlib.Core.Option.{Option, none, some}
+use lib.Dec.{eqb}
+use Rattle.records.specs.Rows.{pick}
+use Rattle.meaning.specs.Name.{syllables, recordNamed, recordForNew}
+use Rattle.meaning.specs.Store.{Store, isDirectory, named, front, last}
+use Rattle.meaning.specs.Tables.{Tables, tables, storeOf}
+use Rattle.meaning.specs.Sound.{sound}
+use Rattle.meaning.specs.Result.{Result, refused, unless, withSyllables, missing}
+use Rattle.meaning.specs.NameCalls.{parent, recordFor}
+use Rattle.meaning.specs.Run.{refusal, numbers, numberOf}
+use Rattle.meaning.specs.Answers.{reported}
+use Rattle.meaning.specs.declared.Report.{Report}
+use Rattle.meaning.specs.declared.Report.the-variants.{NotAStore, BadName}
+use Rattle.lookup.specs.Filed.{filed, bytes-seen, directory-seen}
+use Rattle.naming.specs.Judged.{OnName, onNameOf, refuses}
+use Rattle.naming.specs.Located.{Locates, InPlace, Recorded}
+use Rattle.naming.specs.At.{At, named-seen, located-shelves, located-counted}
+use Rattle.naming.specs.declared.Located.{Located}
+use Rattle.naming.specs.declared.Judged.{Judged}
+use Rattle.naming.specs.declared.Judged.the-variants.{Syllables, Refused}
+
+module _ (b br fr cr : List ℕ) where
+  abbrev t : Tables
+  t = tables b br fr cr
+
+  -- channel records play no part in where a name's record is
+  pub record-seen : (name : List (List ℕ)) → recordFor (filed b br fr) name ≡ recordFor (storeOf t) name
+  unfolding recordFor missing parent
+  record-seen name =
+      rw (named-seen b br fr cr name, named-seen b br fr cr (front name), ← bytes-seen b br fr cr (named (storeOf t) (front name)))
+
+  -- the record that was found is the name's
+  pub found-record : (bytes : List ℕ) (k : ℕ) (x : Located) (a : At t bytes k x) (i : ℕ) → Recorded (filed b br fr) bytes i → i ≡ recordFor (storeOf t) (a .name)
+  found-record bytes k x a i r = r .place (a .name) (a .is) ∙ record-seen (a .name)
+
+  -- the record of a located name can be found where its directory is one
+  pub located-in-place : (bytes : List ℕ) (h : Judged) → OnName t bytes h → (k : ℕ) → h ≡ Syllables k → (x : Located) → Locates (filed b br fr) bytes x
+      → k ≢ 0 → isDirectory (storeOf t) (x .parent .0) ≡ true → InPlace b br fr bytes x
+  located-in-place bytes h on k e x l deep is =
+      record {
+        shelf = located-shelves b br fr cr bytes h on k e;
+        k = k;
+        deep = deep;
+        counted = located-counted b br fr cr bytes h on k e;
+        located = l;
+        is-directory = sym (directory-seen b br fr cr (x .parent .0)) ∙ is;
+      }
+
+-- a name that is refused before it is located is refused by a report of its own
+pub refusal-told : (t : Tables) (bytes : List ℕ) (h : Judged) → OnName t bytes h → (why : Report) → h ≡ Refused why → reported why ≡ refusal why
+unfolding onNameOf unless withSyllables reported numberOf
+refusal-told t bytes h on why e = go (not (sound t)) (syllables bytes) (refuses t bytes h on why e (λ name. refused BadName))
+  where
+    go : (unsound : Bool) (read : Option (List (List ℕ))) → refused why ≡ unless unsound NotAStore (withSyllables read (λ name. refused BadName)) → reported why ≡ refusal why
+    go true read e = let so : why ≡ NotAStore = cc in rw so
+    go false none e = let so : why ≡ BadName = cc in rw so
+    go false (some name) e = let so : why ≡ BadName = cc in rw so
