@@ -1,0 +1,83 @@
+// The calls that make and remove directories.
+use files::clear_file;
+use listing::count_names;
+use lookup::record_count;
+use meaning::FileNo;
+use meaning::Report;
+use naming::Judged;
+use naming::judge_name;
+use naming::locate;
+use naming::record_for;
+use recording::take_name;
+use soundness::is_directory;
+use tables::is_held;
+ghost use mathlib.Core.Path.{_≡_};
+ghost use Rattle.meaning.specs.Run.{Keeps, Call, entered};
+ghost use Rattle.meaning.specs.Answers.{reported};
+ghost use Rattle.folders.specs.Remove.{Removed};
+
+// What rmdir decides: the record that is made blank, by its directory and its place, and the directory that goes; or a refusal.
+pub enum Removing {
+    Of(FileNo, usize, FileNo),
+    No(Report),
+}
+
+// The refusals of rmdir in their order, or the name's record and its directory.
+fn decide_rmdir(
+    blocks: &[u8],
+    block_records: &[u8],
+    file_records: &[u8],
+    channel_records: &[u8],
+    name: &[u8],
+) -> Removing
+    ensures { λ r. ⌜ Removed (entered blocks «block_records» «file_records» «channel_records») (now (name .entry)) r ⌝ }
+{
+    let judged = judge_name(blocks, block_records, file_records, channel_records, name);
+    match judged {
+        Judged::Refused(why) => Removing::No(why),
+        Judged::Syllables(k) => {
+            let at = locate(blocks, block_records, file_records, name, k);
+            let d = at.parent;
+            let f = at.file;
+            if f.0 == 0 {
+                return Removing::No(Report::NoSuchName);
+            }
+            if !is_directory(file_records, f) {
+                return Removing::No(Report::NotDirectory);
+            }
+            if f.0 == 1 {
+                return Removing::No(Report::InUse);
+            }
+            if is_held(channel_records, f) {
+                return Removing::No(Report::InUse);
+            }
+            let count = record_count(file_records, f);
+            if count_names(blocks, block_records, f, count) != 0 {
+                return Removing::No(Report::NotEmpty);
+            }
+            let i = record_for(blocks, block_records, file_records, name, at);
+            Removing::Of(d, i, f)
+        }
+    }
+}
+
+// Removes a directory that has no names.
+pub fn rmdir(
+    blocks: &mut [u8],
+    block_records: &mut [u8],
+    file_records: &mut [u8],
+    channel_records: &[u8],
+    name: &[u8],
+) -> Report
+    ensures { λ r. ⌜ Keeps (Call.Rmdir (now (name .entry))) blocks «block_records» «file_records» «channel_records» (reported r) ⌝ }
+{
+    let decided = decide_rmdir(blocks, block_records, file_records, channel_records, name);
+    match decided {
+        Removing::No(why) => why,
+        Removing::Of(d, i, f) => {
+            take_name(blocks, block_records, file_records, d, i);
+            clear_file(block_records, file_records, f, 0, 0);
+            Report::Ok
+        }
+    }
+}
