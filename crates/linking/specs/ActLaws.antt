@@ -136,7 +136,7 @@ module _ (t : Tables) (old new : List ℕ) (p : Plan) (a : Accepted t old new p)
       (same-or-not f g))
       (same-or-not g 0)
 
-  changes-are : linkChanges s new p ≡ file (parent s to) (naming s to f) ∷ letGo (withName s to f) g
+  pub changes-are : linkChanges s new p ≡ file (parent s to) (naming s to f) ∷ letGo (withName s to f) g
   unfolding linkChanges freed letGo
   changes-are =
       ap (λ (x : File). file (p .to .parent .0) x ∷ freed (goes p) (p .to .file .0)) dir-is

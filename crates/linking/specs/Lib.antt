@@ -4,4 +4,8 @@ pub mod Link
 pub mod LinkLaws
 pub mod Act
 pub mod ActLaws
+pub mod ThenGo
 pub mod Told
+pub mod MoveLaws
+pub mod Move
+pub mod MoveActs

@@ -11,6 +11,7 @@ use naming::judge_name;
 use naming::locate;
 use naming::record_for;
 use recording::give_name;
+use recording::take_name;
 use soundness::is_directory;
 use tables::count_free_blocks;
 use tables::file_record;
@@ -29,7 +30,8 @@ ghost use Rattle.tables.specs.Searches.{freeBlockCount};
 ghost use Rattle.linking.specs.Names.{FindsNames};
 ghost use Rattle.linking.specs.Fit.{FitsIn};
 ghost use Rattle.linking.specs.Link.{lone, Decides};
-ghost use Rattle.linking.specs.Act.{goes, Linkable, Links};
+ghost use Rattle.linking.specs.Act.{goes, lastGoes, MayGo, Linkable, Droppable, LetsGo, Links, Drops};
+ghost use Rattle.linking.specs.Move.{DecidesMove};
 
 // Two names located, or the refusal that comes before any other of a call on two names.
 pub enum Names {
@@ -199,6 +201,27 @@ fn replaced_goes(plan: Plan) -> bool
     plan.lone
 }
 
+// Whether the old name's file goes where a move takes its name: the new name is its own too, and it has no other and no channel.
+fn last_goes(plan: Plan) -> bool
+    ensures { λ r. ⌜ r ≡ lastGoes plan ⌝ }
+{
+    if plan.to.file.0 != plan.from.file.0 {
+        return false;
+    }
+    plan.lone
+}
+
+// File g let go, where it goes.
+fn let_go(block_records: &mut [u8], file_records: &mut [u8], goes: bool, g: FileNo)
+    requires { ⌜ MayGo (now «block_records») (now «file_records») goes (g .0) ⌝ }
+    ensures { λ r. ⌜ LetsGo «block_records» «file_records» goes (g .0) ⌝ }
+{
+    if !goes {
+        return;
+    }
+    clear_file(block_records, file_records, g, 0, 0);
+}
+
 // The new name's record given to the old name's file, and the file that it stood for let go.
 fn make_link(
     blocks: &mut [u8],
@@ -219,10 +242,27 @@ fn make_link(
         plan.from.file,
         new,
     );
-    if !replaced_goes(plan) {
-        return;
-    }
-    clear_file(block_records, file_records, plan.to.file, 0, 0);
+    let_go(
+        block_records,
+        file_records,
+        replaced_goes(plan),
+        plan.to.file,
+    );
+}
+
+// The old name's record, number i of its directory, made blank, and its file let go where that was its last name.
+fn drop_name(
+    blocks: &mut [u8],
+    block_records: &mut [u8],
+    file_records: &mut [u8],
+    plan: Plan,
+    i: usize,
+)
+    requires { ⌜ Droppable (now blocks) (now «block_records») (now «file_records») plan i ⌝ }
+    ensures { λ r. ⌜ Drops blocks «block_records» «file_records» plan i ⌝ }
+{
+    take_name(blocks, block_records, file_records, plan.from.parent, i);
+    let_go(block_records, file_records, last_goes(plan), plan.from.file);
 }
 
 // A new name for the file that an old name stands for; what the new name stood for is replaced.
@@ -248,6 +288,69 @@ pub fn link(
         Linking::No(why) => why,
         Linking::Of(plan) => {
             make_link(blocks, block_records, file_records, new, plan);
+            Report::Ok
+        }
+    }
+}
+
+// How a move goes: as link does, and the old name's record in its directory.
+pub enum Moving {
+    Of(Plan, usize),
+    No(Report),
+}
+
+// The refusals of move, which are those of link, or how it goes.
+fn decide_move(
+    blocks: &[u8],
+    block_records: &[u8],
+    file_records: &[u8],
+    channel_records: &[u8],
+    old: &[u8],
+    new: &[u8],
+) -> Moving
+    ensures { λ r. ⌜ DecidesMove (entered blocks «block_records» «file_records» «channel_records») (now (old .entry)) (now (new .entry)) r ⌝ }
+{
+    let decided = decide_link(
+        blocks,
+        block_records,
+        file_records,
+        channel_records,
+        old,
+        new,
+    );
+    match decided {
+        Linking::No(why) => Moving::No(why),
+        Linking::Of(plan) => {
+            let i = record_for(blocks, block_records, file_records, old, plan.from);
+            Moving::Of(plan, i)
+        }
+    }
+}
+
+// A new name for the file that an old name stands for, instead of the old one.
+pub fn move_name(
+    blocks: &mut [u8],
+    block_records: &mut [u8],
+    file_records: &mut [u8],
+    channel_records: &[u8],
+    old: &[u8],
+    new: &[u8],
+) -> Report
+    ensures { λ r. ⌜ Keeps (Call.Move (now (old .entry)) (now (new .entry))) blocks «block_records» «file_records» «channel_records» (reported r) ⌝ }
+{
+    let decided = decide_move(
+        blocks,
+        block_records,
+        file_records,
+        channel_records,
+        old,
+        new,
+    );
+    match decided {
+        Moving::No(why) => why,
+        Moving::Of(plan, i) => {
+            make_link(blocks, block_records, file_records, new, plan);
+            drop_name(blocks, block_records, file_records, plan, i);
             Report::Ok
         }
     }
