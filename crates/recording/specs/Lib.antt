@@ -1,3 +1,5 @@
 pub mod Recording
 pub mod RecordingLaws
 pub mod AfterRecord
+pub mod Fit
+pub mod NameRecord
