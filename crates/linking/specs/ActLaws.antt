@@ -3,7 +3,7 @@ use Prim.Native.Nat.{ℕ, _+_, _-_, _*_, _≤_, _<_}
 use mathlib.Core.Path.{_≡_, refl, sym, ap, subst, _∙_}
 use mathlib.Core.Logic.{_≢_, ⊎-elim}
 use mathlib.Core.List.{List, [], _∷_}
-use mathlib.Core.Bool.{Bool, true, false, not, _&&_}
+use mathlib.Core.Bool.{Bool, true, false, not, _&&_, true≢false}
 use mathlib.Core.Option.{some}
 use native.Mathlib.Omega.{arith}
 use lib.ListN.{length}
@@ -37,7 +37,7 @@ use Rattle.naming.specs.LocateLaws.{one-name, last-part, last-inside}
 use Rattle.naming.specs.At.{not-missing}
 use Rattle.recording.specs.Recording.{recordOf, Rewritable}
 use Rattle.linking.specs.Link.{lone, Accepted}
-use Rattle.linking.specs.LinkLaws.{sized, link-on}
+use Rattle.linking.specs.LinkRest.{sized, link-on}
 use Rattle.linking.specs.Act.{goes, freed, linkChanges, Linkable}
 use Rattle.linking.specs.declared.Plan.{Plan}
 
@@ -158,12 +158,9 @@ module _ (t : Tables) (old new : List ℕ) (p : Plan) (a : Accepted t old new p)
         in-use = from-used;
         not-root = plain-other s well size-of old from (a .both .old-name .at .is) (a .ordinary);
         small = from-small;
-        deeper = λ is. absurd (true≢false′ (sym is ∙ a .ordinary));
+        deeper = λ is. absurd (true≢false (sym is ∙ a .ordinary));
       })
       (a .ordinary) (a .size) (a .room))
-    where
-      true≢false′ : true ≡ false → ⊥
-      true≢false′ e = let z : _≡_ {A = ℕ} 0 1 = cc in omega arith
 
   -- what the act asks
   count-is : s .fileCount ≡ fileCount (t .fileRecords)

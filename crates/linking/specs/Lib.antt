@@ -1,11 +1,13 @@
 pub mod Names
 pub mod Fit
 pub mod Link
+pub mod LinkRest
 pub mod LinkLaws
 pub mod Act
 pub mod ActLaws
 pub mod ThenGo
 pub mod Told
 pub mod MoveLaws
+pub mod LastName
 pub mod Move
 pub mod MoveActs

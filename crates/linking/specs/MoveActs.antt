@@ -29,6 +29,7 @@ use Rattle.linking.specs.Act.{linkChanges, dropChanges, freed, lastGoes,
 use Rattle.linking.specs.Move.{Movable}
 use Rattle.linking.specs.ActLaws as L
 use Rattle.linking.specs.MoveLaws as M
+use Rattle.linking.specs.LastName as N
 use Rattle.linking.specs.declared.Plan.{Plan}
 
 -- one row of changes after another, in the tables
@@ -79,7 +80,7 @@ module _ (t : Tables) (old new : List ℕ) (p : Plan) (i : ℕ) (m : Movable t o
   unfolding dropChanges freed letGo
   drops-are =
       let orphan : lastGoes p ≡ isOrphan (withoutName s′ from) (named s′ from) =
-      sym (ap (isOrphan (withoutName s′ from)) (M.after-named t old new p a) ∙ M.last-orphan t old new p a) in
+      sym (ap (isOrphan (withoutName s′ from)) (M.after-named t old new p a) ∙ N.last-orphan t old new p a) in
       ap (λ (x : File). file (p .from .parent .0) x ∷ freed (lastGoes p) (p .from .file .0)) blanked
       ∙ ap (λ (d : ℕ). file d (unnaming s′ from) ∷ freed (lastGoes p) (p .from .file .0)) dir-is
       ∙ ap (λ (b : Bool). file (parent s′ from) (unnaming s′ from) ∷ freed b (p .from .file .0)) orphan

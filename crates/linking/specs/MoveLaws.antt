@@ -1,37 +1,30 @@
 -- The store that an accepted link leaves: the old name stands for its file as before, by the same record, so that a move can take it.
-use Prim.Native.Nat.{ℕ, suc, _+_, _-_, _*_, _≤_, _<_, max}
+use Prim.Native.Nat.{ℕ, _<_}
 use mathlib.Core.Path.{_≡_, refl, sym, ap, subst, _∙_}
 use mathlib.Core.Logic.{_≢_, ⊎-elim}
-use mathlib.Core.List.{List, [], _∷_, _++_}
-use mathlib.Core.Bool.{Bool, true, false, not, _&&_, true≢false}
+use mathlib.Core.List.{List}
+use mathlib.Core.Bool.{true, false, true≢false}
 use native.Mathlib.Omega.{arith}
 use lib.ListN.{length}
-use lib.Dec.{eqb}
-use borrow.Author.Tests.{eq-eqb, ne-eqb}
-use Rattle.records.specs.Rows.{tally}
-use Rattle.records.specs.Tests.{same-or-not, and-false}
+use Rattle.records.specs.Tests.{same-or-not}
 use mathlib.Core.Option as O
-use Rattle.meaning.specs.Name.{syllables, Entry, entry, written, entryIn, blankRecord, recordCount, entryAt, withEntry, namesIn}
-use Rattle.meaning.specs.Store.{Store, File, Change, file, after, afterAll, isDirectory, named, names, held, isOrphan, letGo, last}
+use Rattle.meaning.specs.Name.{syllables, Entry, entry, written, recordCount, entryAt, withEntry}
+use Rattle.meaning.specs.Store.{Store, File, file, after, afterAll, isDirectory, named, last}
 use Rattle.meaning.specs.Tables.{Tables, storeOf}
 use Rattle.meaning.specs.Result.{missing}
-use Rattle.meaning.specs.NameCalls.{parent, recordFor, rewritten, naming, unnaming, unlink}
-use Rattle.soundness.specs.Use.{used}
+use Rattle.meaning.specs.NameCalls.{parent, recordFor, naming}
 use Rattle.soundness.specs.Well.{Well}
 use Rattle.directories.specs.EntryLaws.{count-with, entry-same, entry-other}
-use Rattle.trees.specs.AfterFile.{held-file}
-use Rattle.trees.specs.Rewrite.{withRecord, same-names, own-bytes, other-file, directory-same, held-same}
+use Rattle.trees.specs.Rewrite.{own-bytes, other-file}
 use Rattle.trees.specs.Lookups.{parent-same}
 use Rattle.trees.specs.Standing.{Place, Standing, some-syllable, missing-some}
-use Rattle.trees.specs.Naming.{withName, withoutName, naming-entry, naming-rewrites, naming-keeps, names-named}
-use Rattle.trees.specs.LetGo.{letGoing, let-going, let-go-directory, let-go-named, let-go-file}
+use Rattle.trees.specs.Naming.{withName, naming-entry, naming-rewrites, naming-keeps}
+use Rattle.trees.specs.LetGo.{let-go-named, let-go-file}
 use Rattle.trees.specs.Linked.{linked, linked-is, linked-directory, linked-named, linked-there}
-use Rattle.trees.specs.Orphans.{names-less, orphan-unlinked}
-use Rattle.keeping.specs.Sure.{Sure, Sized, sized-after}
+use Rattle.keeping.specs.Sure.{Sized, sized-after}
 use Rattle.keeping.specs.Named.{plain-other, other-standing}
-use Rattle.keeping.specs.Moves.{unlink-done}
-use Rattle.linking.specs.Link.{lone, Accepted}
-use Rattle.linking.specs.Act.{linkChanges, freed, lastGoes}
+use Rattle.linking.specs.Link.{Accepted}
+use Rattle.linking.specs.Act.{linkChanges}
 use Rattle.linking.specs.ActLaws as L
 use Rattle.linking.specs.declared.Plan.{Plan}
 
@@ -61,16 +54,16 @@ module _ (t : Tables) (old new : List ℕ) (p : Plan) (a : Accepted t old new p)
   abbrev pub after-link : Store
   after-link = afterAll s (linkChanges s new p)
 
-  after-is : after-link ≡ linked s to f
+  pub after-is : after-link ≡ linked s to f
   after-is = ap (afterAll s) (L.changes-are t old new p a) ∙ linked-is s to f
 
-  place : Place s to
+  pub place : Place s to
   place = L.to-place t old new p a
 
-  small : f < 65536
+  pub small : f < 65536
   small = L.from-small t old new p a
 
-  some : f ≢ 0
+  pub some : f ≢ 0
   some = missing-some s from (a .there)
 
   is-from : syllables old ≡ O.some from
@@ -177,56 +170,3 @@ module _ (t : Tables) (old new : List ℕ) (p : Plan) (a : Accepted t old new p)
       (λ (e : j ≡ recordFor after-link from). sym e)
       (λ (n : j ≢ recordFor after-link from). absurd (after-standing .place .others j (after-has .0) n (after-has .1)))
       (same-or-not j (recordFor after-link from))
-
-  -- ---- its file goes where the new name stood for it too, and it has no other name and no channel
-
-  linked-names : names (linked s to f) f ≡ names s′ f
-  unfolding naming
-  linked-names =
-      same-names s′ (linked s to f) f (let-going s′ g (λ u. u .fileCount ≡ s′ .fileCount) (λ e. refl) (λ o. unfold after in refl)) (let-go-directory s′ g)
-      (λ k is. ap (λ (x : File). namesIn (x .bytes) f) (let-go-file s′ g k
-      (λ e. true≢false (sym is ∙ directory-same s (parent s to) (recordFor s to) r (naming-rewrites s to place f small) k ∙ ap (isDirectory s) e ∙ a .plain))))
-
-  linked-held : held (linked s to f) f ≡ held s f
-  unfolding naming
-  linked-held =
-      let-going s′ g (λ u. held u f ≡ held s f) (λ e. held-same s (parent s to) (recordFor s to) r (naming-rewrites s to place f small) f)
-      (λ o. held-file s′ g _ f ∙ held-same s (parent s to) (recordFor s to) r (naming-rewrites s to place f small) f)
-
-  count-names : names after-link f + tally (eqb g f) ≡ names s f + 1
-  count-names =
-      let own : tally (eqb f f) ≡ 1 = ap tally (eq-eqb f f refl) in
-      omega (arith, ap (λ (u : Store). names u f) after-is, linked-names, names-named s to place f small f some, own)
-
-  last-is : lastGoes p ≡ lone s g && eqb g f
-  unfolding lastGoes
-  last-is =
-      ap (λ (l : Bool). l && eqb (p .to .file .0) (p .from .file .0)) (a .alone)
-      ∙ ap (λ (h : ℕ). lone s h && eqb h (p .from .file .0)) (a .both .new-name .at .stands)
-      ∙ ap (λ (h : ℕ). lone s g && eqb g h) (a .both .old-name .at .stands)
-
-  orphan-moved : eqb (names after-link f) 1 && not (held after-link f) ≡ lastGoes p
-  unfolding lone
-  orphan-moved =
-      let holders : held after-link f ≡ held s f = ap (λ (u : Store). held u f) after-is ∙ linked-held in
-      ⊎-elim
-      (λ (e : g ≡ f).
-      let one : tally (eqb g f) ≡ 1 = ap tally (eq-eqb g f e) in
-      let same : names after-link f ≡ names s f = omega (arith, count-names) in
-      rw (same, holders) (sym (last-is ∙ rw (eq-eqb g f e, e, ne-eqb f 0 some) (and-true (eqb (names s f) 1 && not (held s f))))))
-      (λ (n : g ≢ f).
-      let none : tally (eqb g f) ≡ 0 = ap tally (ne-eqb g f n) in
-      let more : names after-link f ≢ 1 = omega (arith, count-names, names-less s (L.well t old new p a) from standing-from) in
-      rw (ne-eqb (names after-link f) 1 more) (sym (last-is ∙ rw (ne-eqb g f n) (and-false (lone s g)))))
-      (same-or-not g f)
-    where
-      and-true : (b : Bool) → b && true ≡ b
-      and-true true = refl
-      and-true false = refl
-
-  pub last-orphan : isOrphan (withoutName after-link from) f ≡ lastGoes p
-  last-orphan =
-      ap (isOrphan (withoutName after-link from)) (sym after-named)
-      ∙ orphan-unlinked after-link after-well from after-standing after-plain
-      ∙ ap (λ (h : ℕ). eqb (names after-link h) 1 && not (held after-link h)) after-named
-      ∙ orphan-moved

@@ -15,8 +15,6 @@ use Rattle.linking.specs.declared.Names.{Names}
 use Rattle.linking.specs.declared.Names.the-variants.{Found, Refused}
 use Rattle.linking.proofs.decide_link.Statement.{statement}
 use Rattle.linking.proofs.decide_link.Tie as tie
-use Rattle.linking.proofs.decide_link.Reads as reads
-use Rattle.linking.proofs.decide_link.Lts as lts
 
 find-names-requires : tie.Need-find-names-requires
 find-names-requires c κs = search needs

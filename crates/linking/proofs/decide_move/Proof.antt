@@ -11,7 +11,7 @@ use Rattle.meaning.specs.declared.Report.{Report}
 use Rattle.lookup.specs.Filed.{filed, shelves, directory-seen}
 use Rattle.naming.specs.Located.{InPlace, Recorded}
 use Rattle.linking.specs.Link.{Accepted, Decides, refuses-link, accepts-link}
-use Rattle.linking.specs.LinkLaws.{recordFor-seen}
+use Rattle.linking.specs.LinkRest.{recordFor-seen}
 use Rattle.linking.specs.ActLaws.{is-sound}
 use Rattle.linking.specs.MoveLaws.{from-more, standing-from}
 use Rattle.linking.specs.Move.{DecidesMove}
