@@ -11,12 +11,11 @@ use lib.ListN.{length, drop, getD}
 use borrow.Author.Tests.{le-leb, lt-leb, eq-eqb, ne-eqb}
 use Rattle.records.specs.Rows.{pick, every}
 use Rattle.records.specs.Numbers.{one}
-use Rattle.records.specs.RowLaws.{Found, from-found}
+use Rattle.records.specs.RowLaws.{Found, from-found, every-front}
 use Rattle.records.specs.Tests.{and-false, lt-or-ge}
 use Rattle.meaning.specs.Name.{slash, mostSyllables, isSyllable, split, areSyllables, syllables}
 use Rattle.names.specs.declared.NameForm.the-variants.{Syllables, Bad}
 use Rattle.names.specs.Syllables.{part, isSlash, syllableEnd, nearEnd, formOf, formWith}
-use Rattle.names.specs.ByteLaws.{every-front}
 use Rattle.names.specs.SyllableTests.{syllable-long}
 use Rattle.names.specs.SyllableLaws.{length-part, ends, end-low, end-within}
 
