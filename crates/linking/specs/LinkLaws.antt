@@ -35,13 +35,13 @@ use Rattle.naming.specs.Located.{InPlace, Recorded}
 use Rattle.naming.specs.At.{is-missing, not-missing, file-directory}
 use Rattle.naming.specs.declared.Located.{Located}
 use Rattle.linking.specs.Names.{Both, FindsNames, names-refused, names-both}
-use Rattle.linking.specs.Fit.{FitsIn, ifFitsIn}
+use Rattle.recording.specs.Fit.{FitsIn, ifFitsIn}
 use Rattle.linking.specs.Link.{lone, Decides}
 use Rattle.linking.specs.declared.Linking.the-variants as L
 use Rattle.linking.specs.declared.Names.{Names}
 use Rattle.linking.specs.declared.Names.the-variants.{Found, Refused}
-use Rattle.linking.specs.declared.Fit.{Fit}
-use Rattle.linking.specs.declared.Fit.the-variants.{Fits, No}
+use Rattle.recording.specs.declared.Fit.{Fit}
+use Rattle.recording.specs.declared.Fit.the-variants.{Fits, No}
 use Rattle.linking.specs.LinkRest.{sized, recordFor-seen, nowhere-is, follows-both, linkRest, on-link, link-refusal}
 
 module _ (b br fr cr old new : List ℕ) (names : Names) (on : FindsNames (tables b br fr cr) old new names) where
