@@ -167,17 +167,30 @@ pub fn seek(
     }
 }
 
-// A channel with its position n further.
+// The position a count of bytes further.
+fn further(position: u32, n: usize) -> u32
+    requires { ⌜ position + n < 4294967296 ⌝ }
+    ensures { λ r. ⌜ r ≡ position + n ⌝ }
+{
+    (position as usize + n) as u32
+}
+
+// The position moves by a count of bytes, and the file stays. What takes a channel by reference is walked by hand, so it is thin.
+pub fn move_by(channel: &mut ChannelRecord, n: usize)
+    requires { ⌜ now channel .position + n < 4294967296 ⌝ }
+    ensures { λ _. ⌜ now (channel .exit) ≡ movedBy (now (channel .entry)) n ⌝ }
+{
+    channel.position = further(channel.position, n);
+}
+
+// A channel with its position n further: how read and write move it.
 pub fn moved_by(channel: ChannelRecord, n: usize) -> ChannelRecord
     requires { ⌜ channel .position + n < 4294967296 ⌝ }
     ensures { λ r. ⌜ r ≡ movedBy channel n ⌝ }
 {
-    let file = channel.file;
-    let position = channel.position as usize + n;
-    ChannelRecord {
-        file,
-        position: position as u32,
-    }
+    let mut moved = channel;
+    move_by(&mut moved, n);
+    moved
 }
 
 // Reads as many bytes as the file has after the position and the buffer holds. It answers how many, and the position moves by that.

@@ -20,6 +20,8 @@ use Rattle.tables.specs.StoreLaws.{file-length}
 use Rattle.names.specs.RecordNames.{recordFrom}
 use Rattle.names.specs.Syllables.{part, syllableEnd, syllablesFrom, Reaches}
 use Rattle.names.specs.SyllableLaws.{row-next, reach-inside, reach-next, end-low, end-within}
+use Rattle.paths.specs.Taking.{behind}
+use Rattle.paths.specs.TakingLaws.{behind-slash}
 use Rattle.directories.specs.Places.{recordPlace, entry-there, blank-there}
 use Rattle.directories.specs.Find.{Lies, namedAt, blankAt, placeLowest}
 use Rattle.lookup.specs.Walk.{walk}
@@ -123,8 +125,8 @@ module _ (s : Store) (d : ℕ) (name : List ℕ) (at n end : ℕ) (ended : end �
   pub walk-last : n ≡ 1 → f ≡ walk s d (syllablesFrom name at n)
   walk-last e = walk-none s f name (end + 1) (n - 1) (omega arith) ∙ sym step
 
-  pub walk-on : (g : ℕ) → g ≡ walk s f (syllablesFrom name (end + 1) (n - 1)) → g ≡ walk s d (syllablesFrom name at n)
-  walk-on g e = e ∙ sym step
+  pub walk-on : (after : ℕ) → after ≡ end + 1 → (g : ℕ) → g ≡ walk s f (syllablesFrom name after (n - 1)) → g ≡ walk s d (syllablesFrom name at n)
+  walk-on after goes g e = e ∙ ap (λ (k : ℕ). walk s f (syllablesFrom name k (n - 1))) goes ∙ sym step
 
 module _ (name : List ℕ) (at n end : ℕ) (ended : end ≡ syllableEnd name at) (some : n ≢ 0) (reaches : Reaches name at n) where
   pub syllable-in : (at ≤ end) × (end ≤ length name)
@@ -132,8 +134,15 @@ module _ (name : List ℕ) (at n end : ℕ) (ended : end ≡ syllableEnd name at
       let inside = reach-inside name at n (omega arith) reaches in
       (rw ended (end-low name at), rw ended (end-within name at inside))
 
-  pub reaches-on : Reaches name (end + 1) (n - 1)
+  reaches-on : Reaches name (end + 1) (n - 1)
   reaches-on = rw ended (reach-next name at n (omega arith) reaches)
 
-  pub next-inside : n ≢ 1 → end + 1 ≤ length name
-  next-inside more = reach-inside name (end + 1) (n - 1) (omega arith) reaches-on
+  -- where another syllable follows, what is left starts behind a slash
+  module _ (more : n ≢ 1) (after : ℕ) (left : after ≡ behind name (syllableEnd name at)) where
+    pub after-is : after ≡ end + 1
+    after-is =
+        let inside = reach-inside name (end + 1) (n - 1) (omega arith) reaches-on in
+        left ∙ ap (behind name) (sym ended) ∙ behind-slash name end (omega arith)
+
+    pub reaches-after : Reaches name after (n - 1)
+    reaches-after = rw after-is reaches-on

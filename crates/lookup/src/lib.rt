@@ -2,7 +2,7 @@
 use directories::find_named;
 use meaning::FileNo;
 use names::record_file;
-use names::syllable_end;
+use paths::take_syllable;
 use soundness::is_directory;
 use tables::file_record;
 use tables::find_block;
@@ -77,10 +77,12 @@ pub fn lookup(
     if n == 0 {
         return d;
     }
-    let end = syllable_end(name, at);
+    let taken = take_syllable(name, at);
+    let end = taken.end;
+    let next = taken.next;
     let f = look_in(blocks, block_records, file_records, d, name, at, end);
     if n == 1 {
         return f;
     }
-    lookup(blocks, block_records, file_records, f, name, end + 1, n - 1)
+    lookup(blocks, block_records, file_records, f, name, next, n - 1)
 }
