@@ -1,4 +1,5 @@
 // The calls for programs in other languages. Each makes its call and tells the answer as four numbers; nothing is decided here.
+// Above each stands what it answers after its report.
 mod answers;
 
 use answers::tell_counted;
@@ -36,7 +37,7 @@ pub struct Told {
     pub third: u32,
 }
 
-// Makes an empty store in the tables: all records zero but file 1, an empty directory.
+// Nothing.
 #[no_mangle]
 pub extern "C" fn filestore_prepare(
     blocks: &[u8],
@@ -50,7 +51,7 @@ pub extern "C" fn filestore_prepare(
     tell_report(answer)
 }
 
-// first: the channel.
+// The channel.
 #[no_mangle]
 pub extern "C" fn filestore_create(
     blocks: &mut [u8],
@@ -65,7 +66,7 @@ pub extern "C" fn filestore_create(
     tell_opened(answer)
 }
 
-// first: the channel.
+// The channel.
 #[no_mangle]
 pub extern "C" fn filestore_open(
     blocks: &[u8],
@@ -80,6 +81,7 @@ pub extern "C" fn filestore_open(
     tell_opened(answer)
 }
 
+// Nothing.
 #[no_mangle]
 pub extern "C" fn filestore_close(
     blocks: &[u8],
@@ -100,7 +102,7 @@ pub extern "C" fn filestore_close(
     tell_report(answer)
 }
 
-// first: the count of bytes read.
+// The count of bytes read.
 #[no_mangle]
 pub extern "C" fn filestore_read(
     blocks: &[u8],
@@ -123,7 +125,7 @@ pub extern "C" fn filestore_read(
     tell_counted(answer)
 }
 
-// first: the count of bytes written.
+// The count of bytes written.
 #[no_mangle]
 pub extern "C" fn filestore_write(
     blocks: &mut [u8],
@@ -146,7 +148,7 @@ pub extern "C" fn filestore_write(
     tell_counted(answer)
 }
 
-// first: the new position.
+// The new position.
 #[no_mangle]
 pub extern "C" fn filestore_seek(
     blocks: &[u8],
@@ -171,7 +173,7 @@ pub extern "C" fn filestore_seek(
     tell_sought(answer)
 }
 
-// first: length; second: file number; third: kind.
+// Length, file number, kind.
 #[no_mangle]
 pub extern "C" fn filestore_fstat(
     blocks: &[u8],
@@ -192,6 +194,7 @@ pub extern "C" fn filestore_fstat(
     tell_stat(answer)
 }
 
+// Nothing.
 #[no_mangle]
 pub extern "C" fn filestore_link(
     blocks: &mut [u8],
@@ -214,6 +217,7 @@ pub extern "C" fn filestore_link(
     tell_report(answer)
 }
 
+// Nothing.
 #[no_mangle]
 pub extern "C" fn filestore_unlink(
     blocks: &mut [u8],
@@ -228,6 +232,7 @@ pub extern "C" fn filestore_unlink(
     tell_report(answer)
 }
 
+// Nothing.
 #[no_mangle]
 pub extern "C" fn filestore_move(
     blocks: &mut [u8],
@@ -250,7 +255,7 @@ pub extern "C" fn filestore_move(
     tell_report(answer)
 }
 
-// first: the count of names.
+// The count of names.
 #[no_mangle]
 pub extern "C" fn filestore_ls(
     blocks: &[u8],
@@ -273,6 +278,7 @@ pub extern "C" fn filestore_ls(
     tell_counted(answer)
 }
 
+// Nothing.
 #[no_mangle]
 pub extern "C" fn filestore_mkdir(
     blocks: &mut [u8],
@@ -287,6 +293,7 @@ pub extern "C" fn filestore_mkdir(
     tell_report(answer)
 }
 
+// Nothing.
 #[no_mangle]
 pub extern "C" fn filestore_rmdir(
     blocks: &mut [u8],
@@ -301,7 +308,7 @@ pub extern "C" fn filestore_rmdir(
     tell_report(answer)
 }
 
-// first: free blocks; second: free file numbers; third: free channels.
+// Free blocks, free file numbers, free channels.
 #[no_mangle]
 pub extern "C" fn filestore_room(
     blocks: &[u8],

@@ -7,7 +7,7 @@ use Rattle.meaning.specs.declared.Counted.{Counted}
 use Rattle.meaning.specs.declared.Counted.the-variants.{Of, Refused}
 use Rattle.filestore.specs.declared.Told.{Told}
 use Rattle.filestore.specs.Tells.{four, alone, Numbers}
-use Rattle.filestore.specs.TellsLaws.{one-told, refusal-one}
+use Rattle.filestore.specs.TellsLaws.{one-told, refusal-told}
 use borrow.Author.Needs.{needs}
 use Rattle.filestore.proofs.answers.tell_counted.Statement.{statement}
 use Rattle.filestore.proofs.answers.tell_counted.Tie as tie
@@ -17,7 +17,7 @@ module _ (answer : Counted) where
   accepted-told n e = rw e (one-told n)
 
   refused-told : (why : Report) (r : Told) → answer ≡ Refused why → four r ≡ alone why → Numbers 1 (counted answer) r
-  refused-told why r e a = rw e (refusal-one why r a)
+  refused-told why r e a = rw e (refusal-told why r a 1)
 
 enum-known-answer : tie.Need-enum-known-answer
 enum-known-answer c = search needs

@@ -7,7 +7,7 @@ use Rattle.meaning.specs.declared.Space.{Space}
 use Rattle.meaning.specs.declared.Space.the-variants.{Of, Refused}
 use Rattle.filestore.specs.declared.Told.{Told}
 use Rattle.filestore.specs.Tells.{four, alone, Numbers}
-use Rattle.filestore.specs.TellsLaws.{three-told, refusal-three}
+use Rattle.filestore.specs.TellsLaws.{three-told, refusal-told}
 use borrow.Author.Needs.{needs}
 use Rattle.filestore.proofs.answers.tell_space.Statement.{statement}
 use Rattle.filestore.proofs.answers.tell_space.Tie as tie
@@ -17,7 +17,7 @@ module _ (answer : Space) where
   accepted-told blocks files channels e = rw e (three-told blocks files channels)
 
   refused-told : (why : Report) (r : Told) → answer ≡ Refused why → four r ≡ alone why → Numbers 3 (spaceOf answer) r
-  refused-told why r e a = rw e (refusal-three why r a)
+  refused-told why r e a = rw e (refusal-told why r a 3)
 
 enum-known-answer : tie.Need-enum-known-answer
 enum-known-answer c = search needs

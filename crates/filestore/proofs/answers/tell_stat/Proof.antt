@@ -8,7 +8,7 @@ use Rattle.meaning.specs.declared.Stat.{Stat}
 use Rattle.meaning.specs.declared.Stat.the-variants.{Of, Refused}
 use Rattle.filestore.specs.declared.Told.{Told}
 use Rattle.filestore.specs.Tells.{four, alone, Numbers}
-use Rattle.filestore.specs.TellsLaws.{three-told, refusal-three}
+use Rattle.filestore.specs.TellsLaws.{three-told, refusal-told}
 use borrow.Author.Needs.{needs}
 use Rattle.filestore.proofs.answers.tell_stat.Statement.{statement}
 use Rattle.filestore.proofs.answers.tell_stat.Tie as tie
@@ -18,7 +18,7 @@ module _ (answer : Stat) where
   accepted-told size f kind e = rw e (three-told size (f .0) kind)
 
   refused-told : (why : Report) (r : Told) → answer ≡ Refused why → four r ≡ alone why → Numbers 3 (statOf answer) r
-  refused-told why r e a = rw e (refusal-three why r a)
+  refused-told why r e a = rw e (refusal-told why r a 3)
 
 enum-known-answer : tie.Need-enum-known-answer
 enum-known-answer c = search needs
