@@ -458,11 +458,11 @@ fn chain_new(blocks: &[u8], starts: &[u16; 64], links: &[u16; 2048], i: usize, l
     }
     let mut next = last as usize;
     while 0 < next {
-        let j = next - 1;
-        if same_name(blocks, 16 * slot_at(starts, j), at) {
+        let k = next - 1;
+        if same_name(blocks, 16 * slot_at(starts, k), at) {
             return false;
         }
-        next = links[j] as usize;
+        next = links[k] as usize;
     }
     true
 }
@@ -493,7 +493,7 @@ fn names_new(blocks: &[u8], starts: &[u16; 64], n: usize) -> bool
     requires { ⌜ Within (now blocks) (now starts) n ⌝ ∗ ⌜ Padded (now blocks) (now starts) n ⌝ }
     ensures { λ r. ⌜ r ≡ namesAt (now (blocks .entry)) (now (starts .entry)) n ⌝ }
 {
-    if n < 16 {
+    if n < 8 {
         return names_compared(blocks, starts, n);
     }
     names_chained(blocks, starts, n)

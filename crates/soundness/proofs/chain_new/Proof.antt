@@ -54,8 +54,8 @@ returns c = search blank-new
 loop-holds : tie.Need-loop-holds Inv-loop μ-loop
 loop-holds c = let p = c .before .before .before .before .pre in looked-start _ _ _ (p .0) (p .1 .0) _ (p .1 .1 .1)
 
-sub-j : tie.Need-sub-j Inv-loop μ-loop
-sub-j c = search needs
+sub-k : tie.Need-sub-k Inv-loop μ-loop
+sub-k c = search needs
 
 slot-at-requires-2 : tie.Need-slot-at-requires-2 Inv-loop μ-loop
 slot-at-requires-2 c κs =
@@ -133,7 +133,7 @@ chain-new-spec =
     is-blank-requires
     returns
     loop-holds
-    sub-j
+    sub-k
     slot-at-requires-2
     mul-same-name
     same-name-requires
