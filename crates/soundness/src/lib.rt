@@ -23,6 +23,7 @@ ghost use Rattle.names.specs.RecordNames.{recordFrom};
 ghost use Rattle.soundness.specs.Rules.{countsTo, directoryForm, placeCount, placedBelow, deeperThan, newAt, recordsAt, namesAt, deeperAt, Countable, Counted, isNamedBy, allNamedBy};
 ghost use Rattle.soundness.specs.Seen.{filesStore, channelsStore, recordTables};
 ghost use Rattle.soundness.specs.Slots.{directoriesStore, Starts, slot, Placed, Within};
+ghost use Rattle.soundness.specs.Chains.{Padded, chainFrom, chainAt, Last, Links};
 ghost use Rattle.soundness.specs.DirectoryRules.{directoryRule, directoriesRule};
 ghost use Rattle.soundness.specs.Counts.{Counts};
 ghost use Rattle.soundness.specs.SoundLaws.{tablesSound};
@@ -417,8 +418,8 @@ fn name_new(blocks: &[u8], starts: &[u16; 64], i: usize) -> bool
     true
 }
 
-// Whether no two of a directory's n records have the same name.
-fn names_new(blocks: &[u8], starts: &[u16; 64], n: usize) -> bool
+// Whether no two of a directory's n records have the same name, each compared with every one before it.
+fn names_compared(blocks: &[u8], starts: &[u16; 64], n: usize) -> bool
     requires { ⌜ Within (now blocks) (now starts) n ⌝ }
     ensures { λ r. ⌜ r ≡ namesAt (now (blocks .entry)) (now (starts .entry)) n ⌝ }
 {
@@ -430,6 +431,72 @@ fn names_new(blocks: &[u8], starts: &[u16; 64], n: usize) -> bool
         i += 1;
     }
     true
+}
+
+// Which of 1,024 chains the record that starts at a place belongs to: its name's 14 bytes, mixed.
+fn chain_of(table: &[u8], at: usize) -> usize
+    requires { ⌜ at + 16 ≤ length (now table) ⌝ }
+    ensures { λ r. ⌜ r ≡ chainFrom (now (table .entry)) at ⌝ }
+{
+    let a = four_at(table, at + 2) as u64;
+    let b = four_at(table, at + 6) as u64;
+    let c = four_at(table, at + 10) as u64;
+    let d = two_at(table, at + 14) as u64;
+    let mixed = 663608941 * a + 1013904223 * b + 741103597 * c + 597273977 * d;
+    (mixed / 67108864 % 1024) as usize
+}
+
+// Whether record i of a directory is blank, or no record before it in its chain has its name. `last` is one more than
+// the chain's last record before it, links[k] the same of record k, and 0 says that there is none.
+fn chain_new(blocks: &[u8], starts: &[u16; 64], links: &[u16; 2048], i: usize, last: u16) -> bool
+    requires { ⌜ Within (now blocks) (now starts) (i + 1) ⌝ ∗ ⌜ Padded (now blocks) (now starts) (i + 1) ⌝ ∗ ⌜ Links (now blocks) (now starts) i (now links) ⌝ ∗ ⌜ Last (now blocks) (now starts) (chainAt (now blocks) (now starts) i) i last ⌝ }
+    ensures { λ r. ⌜ r ≡ newAt (now (blocks .entry)) (now (starts .entry)) i ⌝ }
+{
+    let at = 16 * slot_at(starts, i);
+    if is_blank(blocks, at) {
+        return true;
+    }
+    let mut next = last as usize;
+    while 0 < next {
+        let k = next - 1;
+        if same_name(blocks, 16 * slot_at(starts, k), at) {
+            return false;
+        }
+        next = links[k] as usize;
+    }
+    true
+}
+
+// The same as names_compared, where a name is compared with those of its chain alone.
+fn names_chained(blocks: &[u8], starts: &[u16; 64], n: usize) -> bool
+    requires { ⌜ Within (now blocks) (now starts) n ⌝ ∗ ⌜ Padded (now blocks) (now starts) n ⌝ }
+    ensures { λ r. ⌜ r ≡ namesAt (now (blocks .entry)) (now (starts .entry)) n ⌝ }
+{
+    let mut lasts: [u16; 1024] = [0; 1024];
+    let mut links: [u16; 2048] = [0; 2048];
+    let mut i: usize = 0;
+    while i < n {
+        let h = chain_of(blocks, 16 * slot_at(starts, i));
+        let last = lasts[h];
+        if !chain_new(blocks, starts, &links, i, last) {
+            return false;
+        }
+        links[i] = last;
+        lasts[h] = (i + 1) as u16;
+        i += 1;
+    }
+    true
+}
+
+// Whether no two of a directory's n records have the same name. For few records chains do not pay.
+fn names_new(blocks: &[u8], starts: &[u16; 64], n: usize) -> bool
+    requires { ⌜ Within (now blocks) (now starts) n ⌝ ∗ ⌜ Padded (now blocks) (now starts) n ⌝ }
+    ensures { λ r. ⌜ r ≡ namesAt (now (blocks .entry)) (now (starts .entry)) n ⌝ }
+{
+    if n < 8 {
+        return names_compared(blocks, starts, n);
+    }
+    names_chained(blocks, starts, n)
 }
 
 // Whether every directory that is named by one of a directory's n records is one deeper.

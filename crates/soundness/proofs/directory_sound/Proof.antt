@@ -8,6 +8,8 @@ use Rattle.meaning.specs.Tables.{fileCount, depthAt}
 use Rattle.soundness.specs.Rules.{recordsAt, namesAt, deeperAt}
 use Rattle.soundness.specs.Seen.{filesStore}
 use Rattle.soundness.specs.Slots.{directoriesStore, Starts, Placed}
+use Rattle.soundness.specs.Chains.{Padded}
+use Rattle.soundness.specs.ChainLaws.{padded-sound}
 use Rattle.soundness.specs.DirectoryRules.{directoryRule, records-there, names-there, deepers-there}
 use Rattle.soundness.specs.DirectoryReads.{kind-read, size-read, few-places, starts-read, within-read}
 use borrow.Author.Needs.{needs}
@@ -21,6 +23,12 @@ module _ (blocks records files : List ℕ) (placed : Placed blocks records files
   no-directory : (kind : ℕ) → kind ≡ one files (8 * r) → (kind ≡ 2 → ⊥) → true ≡ verdict
   unfolding directoryRule
   no-directory kind k d = rw (kind-read blocks records files placed r h kind k, ne-eqb kind 2 d)
+
+  -- records that are sound have zeros behind their names
+  padded : (size : ℕ) → size ≡ four files (8 * r + 4) → (starts : List ℕ) → Starts records (r + 1) ((size + 511) / 512) starts →
+      (records-ok : Bool) → records-ok ≡ recordsAt (filesStore files) blocks starts (size / 16) → not records-ok ≡ false → Padded blocks starts (size / 16)
+  padded size sized starts found records-ok a m =
+      padded-sound (filesStore files) blocks starts (size / 16) (within-read blocks records files placed r h size sized starts found) (sym a ∙ not-false records-ok m)
 
   module _ (size : ℕ) (sized : size ≡ four files (8 * r + 4)) (starts : List ℕ) (found : Starts records (r + 1) ((size + 511) / 512) starts) (kind : ℕ) (k : kind ≡ one files (8 * r)) (is : kind ≡ 2) where
     rules-are : verdict ≡ recordsAt (filesStore files) blocks starts (size / 16) && namesAt blocks starts (size / 16) && deeperAt (filesStore files) blocks starts (one files (8 * r + 1)) (size / 16)
@@ -99,7 +107,12 @@ returns-2 : tie.Need-returns-2
 returns-2 c = search bad-record
 
 names-new-requires : tie.Need-names-new-requires
-names-new-requires c κs = search within-read
+names-new-requires c κs =
+    let f = c .before .before .before .before in
+    let s = f .before .before .before .before .before .before .before .before in (
+      search within-read,
+      padded _ _ _ (s .pre .0) _ (s .pre .1) _ (f .before .four-at .ensures) _ (f .find-blocks .ensures) _ (c .before .before .records-sound .ensures) (c .before .if2 .left),
+    )
 
 returns-3 : tie.Need-returns-3
 returns-3 c = search bad-name

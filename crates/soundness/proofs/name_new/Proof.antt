@@ -1,48 +1,16 @@
 -- No record passed has the name of record i; the measure is how many are left.
 use Prim.Native.Nat.{ℕ, _+_, _-_, _*_, _≤_, _<_}
-use mathlib.Core.Path.{_≡_, refl, sym}
-use mathlib.Core.List.{List}
-use mathlib.Core.Bool.{Bool, true, false, not}
+use mathlib.Core.Path.{_≡_, sym}
+use mathlib.Core.Bool.{true}
 use native.Mathlib.Omega.{arith}
 use Rattle.records.specs.Rows.{every}
-use Rattle.records.specs.LoopLaws.{every-start, every-step, every-fail}
+use Rattle.records.specs.LoopLaws.{every-start, every-step}
 use Rattle.soundness.specs.RuleLoops.{rules-passed}
-use Rattle.records.specs.Numbers.{zeros}
-use Rattle.meaning.specs.Name.{entryIn, entryAt, isBlank, same}
-use Rattle.names.specs.RecordNames.{recordFrom, entry-at}
-use Rattle.soundness.specs.Rules.{newAt}
-use Rattle.soundness.specs.Slots.{slot, slot-small, slot-fits}
+use Rattle.soundness.specs.NewNames.{other, blank-new, compared-new, other-name, same-old}
+use Rattle.soundness.specs.Slots.{slot-small, slot-fits}
 use borrow.Author.Needs.{needs}
 use Rattle.soundness.proofs.name_new.Statement.{statement}
 use Rattle.soundness.proofs.name_new.Tie as tie
-
-abbrev other : List ℕ → List ℕ → ℕ → ℕ → Bool
-other blocks starts i j = not (same (entryAt blocks (slot starts j) .name) (entryAt blocks (slot starts i) .name))
-
-module _ (blocks starts : List ℕ) (i k : ℕ) (slot-is : k ≡ slot starts i) (flag : Bool) (is : flag ≡ zeros blocks (16 * k) 16) where
-  blankness : isBlank blocks (slot starts i) ≡ flag
-  unfolding isBlank
-  blankness = rw (← slot-is) (sym is)
-
-  blank : flag ≡ true → true ≡ newAt blocks starts i
-  unfolding newAt
-  blank e = rw (blankness, e)
-
-  module _ (used : flag ≡ false) where
-    module _ (j l : ℕ) (slot-j : l ≡ slot starts j) (alike : Bool) (test : alike ≡ same (entryIn (recordFrom blocks (16 * l)) .name) (entryIn (recordFrom blocks (16 * k)) .name)) where
-      tested : same (entryAt blocks (slot starts j) .name) (entryAt blocks (slot starts i) .name) ≡ alike
-      tested = rw (← slot-j, ← slot-is, entry-at blocks l, entry-at blocks k) (sym test)
-
-      taken : j < i → alike ≡ true → false ≡ newAt blocks starts i
-      unfolding newAt
-      taken h e = rw (blankness, used) (sym (every-fail (other blocks starts i) j i h (rw (tested, e))))
-
-      next : every j (other blocks starts i) ≡ true → alike ≡ false → every (j + 1) (other blocks starts i) ≡ true
-      next so-far e = every-step (other blocks starts i) j so-far (rw (tested, e))
-
-    none-has : (j : ℕ) → j ≤ i → i ≤ j → every j (other blocks starts i) ≡ true → true ≡ newAt blocks starts i
-    unfolding newAt
-    none-has j l h so-far = rw (blankness, used) (rules-passed (other blocks starts i) i j l h so-far)
 
 abbrev Inv-loop : tie.InvT-loop
 Inv-loop blocks starts i at j₀ j = (j ≤ i) × (every j (other blocks starts i) ≡ true)
@@ -60,7 +28,7 @@ is-blank-requires : tie.Need-is-blank-requires Inv-loop μ-loop
 is-blank-requires c κs = slot-fits _ _ _ (c .before .before .pre) _ (search needs) _ (c .slot-at .ensures)
 
 returns : tie.Need-returns Inv-loop μ-loop
-returns c = search blank
+returns c = search blank-new
 
 loop-holds : tie.Need-loop-holds Inv-loop μ-loop
 loop-holds c = (search needs, search every-start)
@@ -80,7 +48,7 @@ returns-2 : tie.Need-returns-2 Inv-loop μ-loop
 returns-2 c =
     let d = c .before in
     let e = d .before .before .before .before in
-    taken _ _ _ _ (e .before .before .slot-at .ensures) _ (e .before .is-blank .ensures) (e .if1 .left)
+    same-old _ _ _ _ (e .before .before .slot-at .ensures) _ (e .before .is-blank .ensures) (e .if1 .left)
     _ _ (d .before .slot-at2 .ensures) _ (d .same-name .ensures) (search needs) (c .if2 .taken)
 
 add-j : tie.Need-add-j Inv-loop μ-loop
@@ -95,15 +63,17 @@ loop-again c =
     let l = d .before .before .before in
     let e = l .before in (
       search needs,
-      next _ _ _ _ (e .before .before .slot-at .ensures) _ (e .before .is-blank .ensures) (e .if1 .left)
-          _ _ (d .before .slot-at2 .ensures) _ (d .same-name .ensures) (l .loop .inv .1) (c .if2 .left),
+      every-step (other _ _ _) _ (l .loop .inv .1)
+          (other-name _ _ _ _ (e .before .before .slot-at .ensures) _ (e .before .is-blank .ensures) (e .if1 .left)
+          _ _ (d .before .slot-at2 .ensures) _ (d .same-name .ensures) (c .if2 .left)),
     )
 
 returns-3 : tie.Need-returns-3 Inv-loop μ-loop
 returns-3 c =
     let l = c .before in
     let e = l .before in
-    none-has _ _ _ _ (e .before .before .slot-at .ensures) _ (e .before .is-blank .ensures) (e .if1 .left) _ (search needs) (search needs) (l .loop .inv .1)
+    compared-new _ _ _ _ (e .before .before .slot-at .ensures) _ (e .before .is-blank .ensures) (e .if1 .left)
+    (sym (rules-passed (other _ _ _) _ _ (search needs) (search needs) (l .loop .inv .1)))
 
 pub name-new-spec : {M : Type 1} → statement M
 name-new-spec =

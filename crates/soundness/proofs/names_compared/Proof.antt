@@ -9,8 +9,8 @@ use Rattle.soundness.specs.RuleLoops.{rule-passed, rule-failed, rules-pa
 use Rattle.soundness.specs.Rules.{newAt, namesAt}
 use Rattle.soundness.specs.Slots.{within-less}
 use borrow.Author.Needs.{needs}
-use Rattle.soundness.proofs.names_new.Statement.{statement}
-use Rattle.soundness.proofs.names_new.Tie as tie
+use Rattle.soundness.proofs.names_compared.Statement.{statement}
+use Rattle.soundness.proofs.names_compared.Tie as tie
 
 all : (blocks starts : List ℕ) (n : ℕ) → every n (newAt blocks starts) ≡ namesAt blocks starts n
 unfolding namesAt
@@ -43,8 +43,8 @@ loop-again c = (search needs, let d = c .before in rule-passed (newAt _ _) _ _ (
 returns-2 : tie.Need-returns-2 Inv-loop μ-loop
 returns-2 c = rules-passed (newAt _ _) _ _ (search needs) (search needs) (c .before .loop .inv .1) ∙ all _ _ _
 
-pub names-new-spec : {M : Type 1} → statement M
-names-new-spec =
+pub names-compared-spec : {M : Type 1} → statement M
+names-compared-spec =
     tie.close
     (tie.spec
     Inv-loop
