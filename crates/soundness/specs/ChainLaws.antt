@@ -15,7 +15,7 @@ use Rattle.records.specs.Tests.{and-right, lt-or-ge, same-or-not}
 use Rattle.meaning.specs.Name.{recordAt, entryAt, entryIn, nameEnd, isBlank, isWritten, isSyllable, same}
 use Rattle.meaning.specs.Store.{Store}
 use Rattle.meaning.specs.Sound.{recordSound}
-use Rattle.names.specs.ByteLaws.{same-is}
+use Rattle.names.specs.SameLaws.{same-is}
 use Rattle.names.specs.RecordLaws.{name-length, name-one}
 use Rattle.names.specs.RecordNames.{recordFrom, record-at, record-length, record-one}
 use Rattle.soundness.specs.Use.{not-so}
