@@ -6,34 +6,10 @@ use meaning::Report;
 use meaning::Sought;
 use meaning::Space;
 use meaning::Stat;
+use meaning::report_number;
 ghost use mathlib.Core.Path.{_≡_};
-ghost use Rattle.meaning.specs.Run.{numberOf};
 ghost use Rattle.meaning.specs.Answers.{reported, opened, counted, sought, statOf, spaceOf};
 ghost use Rattle.filestore.specs.Tells.{four, alone, Numbers};
-
-// The number of a report.
-fn report_number(report: Report) -> u32
-    ensures { λ r. ⌜ r ≡ numberOf report ⌝ }
-{
-    match report {
-        Report::Ok => 0,
-        Report::NotAStore => 1,
-        Report::BadName => 2,
-        Report::NoSuchCid => 3,
-        Report::NoSuchName => 4,
-        Report::NoFreeCids => 5,
-        Report::IsDirectory => 6,
-        Report::NotDirectory => 7,
-        Report::NoFreeFids => 8,
-        Report::NoRoom => 9,
-        Report::TooBig => 10,
-        Report::BadSeek => 11,
-        Report::NameInUse => 12,
-        Report::NotEmpty => 13,
-        Report::OutShort => 14,
-        Report::InUse => 15,
-    }
-}
 
 // A report with zeros after it: a refusal of any call.
 fn tell_alone(report: Report) -> Told

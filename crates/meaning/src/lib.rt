@@ -1,4 +1,6 @@
 // The types that calls speak in. Every definition of the store is in specs/.
+ghost use mathlib.Core.Path.{_≡_};
+ghost use Rattle.meaning.specs.Run.{numberOf};
 
 // What a call reports, in document 01's order: the first is 0, the last 15.
 pub enum Report {
@@ -18,6 +20,30 @@ pub enum Report {
     NotEmpty,
     OutShort,
     InUse,
+}
+
+// Document 01's number of a report.
+pub fn report_number(report: Report) -> u32
+    ensures { λ r. ⌜ r ≡ numberOf report ⌝ }
+{
+    match report {
+        Report::Ok => 0,
+        Report::NotAStore => 1,
+        Report::BadName => 2,
+        Report::NoSuchCid => 3,
+        Report::NoSuchName => 4,
+        Report::NoFreeCids => 5,
+        Report::IsDirectory => 6,
+        Report::NotDirectory => 7,
+        Report::NoFreeFids => 8,
+        Report::NoRoom => 9,
+        Report::TooBig => 10,
+        Report::BadSeek => 11,
+        Report::NameInUse => 12,
+        Report::NotEmpty => 13,
+        Report::OutShort => 14,
+        Report::InUse => 15,
+    }
 }
 
 // Files are counted from 1; 0 means none.

@@ -5,6 +5,7 @@ use meaning::Report;
 use meaning::Sought;
 use meaning::Space;
 use meaning::Stat;
+use meaning::report_number;
 ghost use mathlib.Core.Path.{_≡_};
 ghost use mathlib.Core.List.{[], _∷_, _++_};
 ghost use Prim.Native.Nat.{_+_, _*_, _≤_, _<_};
@@ -106,30 +107,6 @@ fn put_hex_word(out: &mut [u8], at: usize, bytes: &[u8]) -> usize
 }
 
 // ---- answers, each a line with its newline
-
-// The number of a report.
-fn report_number(report: Report) -> u32
-    ensures { λ r. ⌜ r ≡ numberOf report ⌝ }
-{
-    match report {
-        Report::Ok => 0,
-        Report::NotAStore => 1,
-        Report::BadName => 2,
-        Report::NoSuchCid => 3,
-        Report::NoSuchName => 4,
-        Report::NoFreeCids => 5,
-        Report::IsDirectory => 6,
-        Report::NotDirectory => 7,
-        Report::NoFreeFids => 8,
-        Report::NoRoom => 9,
-        Report::TooBig => 10,
-        Report::BadSeek => 11,
-        Report::NameInUse => 12,
-        Report::NotEmpty => 13,
-        Report::OutShort => 14,
-        Report::InUse => 15,
-    }
-}
 
 // A line that is no call.
 pub fn print_unknown(out: &mut [u8], at: usize) -> usize

@@ -1,8 +1,8 @@
 -- Each report has its number.
 use Rattle.meaning.specs.Run.{numberOf}
 use borrow.Author.Needs.{needs}
-use Rattle.text.proofs.print.report_number.Statement.{statement}
-use Rattle.text.proofs.print.report_number.Tie as tie
+use Rattle.meaning.proofs.report_number.Statement.{statement}
+use Rattle.meaning.proofs.report_number.Tie as tie
 
 enum-told : tie.Need-enum-told
 enum-told c = search needs
