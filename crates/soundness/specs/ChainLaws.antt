@@ -9,96 +9,70 @@ use lib.ListN.{length, getD, set, replicate, length-set, length-replicate, getD-
 use lib.Seq.{getD-set-same, getD-set-other}
 use Rattle.records.specs.Rows.{every}
 use Rattle.records.specs.RowLaws.{every-all, all-every}
-use Rattle.records.specs.NumberLaws.{two-cong, four-cong, zeros-zero}
+use Rattle.records.specs.NumberLaws.{zeros-zero}
 use Rattle.records.specs.Numbers.{one, zeros}
 use Rattle.records.specs.Tests.{and-right, lt-or-ge, same-or-not}
-use Rattle.meaning.specs.Name.{recordAt, entryAt, entryIn, nameEnd, isBlank, isWritten, isSyllable, same}
+use Rattle.meaning.specs.Name.{entryIn, nameEnd, isBlank, isWritten, isSyllable, same}
 use Rattle.meaning.specs.Store.{Store}
 use Rattle.meaning.specs.Sound.{recordSound}
-use Rattle.names.specs.SameLaws.{same-is}
-use Rattle.names.specs.RecordLaws.{name-length, name-one}
-use Rattle.names.specs.RecordNames.{recordFrom, record-at, record-length, record-one}
+use Rattle.names.specs.RecordNames.{recordFrom, record-at, entry-at}
 use Rattle.soundness.specs.Use.{not-so}
 use Rattle.soundness.specs.Well.{RecordForm, as-blank, as-naming}
 use Rattle.soundness.specs.FormLaws.{record-form}
 use Rattle.soundness.specs.Rules.{recordsAt}
 use Rattle.soundness.specs.Slots.{slot, Within}
+use Rattle.soundness.specs.RecordRules.{Filled, SameWords, name-byte, same-words}
 use Rattle.soundness.specs.NewNames.{other}
 use Rattle.soundness.specs.Chains.{Padded, chainFrom, chainAt, Last, Lasts, Links}
 
 -- ---- sound records have zeros behind their names
 
-module _ (blocks : List ℕ) (k : ℕ) (fits : 16 * k + 16 ≤ length blocks) where
-  abbrev r : List ℕ
-  r = recordAt blocks k
+filled : (s : Store) (blocks : List ℕ) (k : ℕ) → 16 * k + 16 ≤ length blocks → recordSound s blocks k ≡ true → Filled blocks (16 * k)
+unfolding isBlank isWritten one
+filled s blocks k fits is = record { zero = λ j l h. go j l h (record-form s blocks k is) }
+  where
+    r : List ℕ
+    r = recordFrom blocks (16 * k)
 
-  pub size-there : length r ≡ 16
-  size-there = rw (record-at blocks k) (record-length blocks (16 * k) fits)
-
-  pub byte-there : (j : ℕ) → j < 16 → one r j ≡ one blocks (16 * k + j)
-  byte-there j h = rw (record-at blocks k) (record-one blocks (16 * k) fits j h)
-
-  zeros-behind : (s : Store) → recordSound s blocks k ≡ true → (j : ℕ) → nameEnd r ≤ j → j < 14 → one r (2 + j) ≡ 0
-  unfolding isBlank isWritten one
-  zeros-behind s is j l h = go (record-form s blocks k is)
-    where
-      go : RecordForm s blocks k → one r (2 + j) ≡ 0
-      go (as-blank b) = byte-there (2 + j) (omega arith) ∙ zeros-zero blocks (16 * k) 16 b (2 + j) (omega arith)
-      go (as-naming n) =
-          let all : zeros r (2 + nameEnd r) (14 - nameEnd r) ≡ true = and-right (isSyllable (entryIn r .name)) (zeros r (2 + nameEnd r) (14 - nameEnd r)) (n .written) in
-          let e : 2 + nameEnd r + (j - nameEnd r) ≡ 2 + j = omega arith in
-          rw e at (zeros-zero r (2 + nameEnd r) (14 - nameEnd r) all (j - nameEnd r) (omega arith))
+    go : (j : ℕ) → nameEnd r ≤ j → j < 14 → RecordForm s blocks k → one blocks (16 * k + 2 + j) ≡ 0
+    go j l h (as-blank b) =
+        let e : 16 * k + (2 + j) ≡ 16 * k + 2 + j = omega arith in
+        rw e at (zeros-zero blocks (16 * k) 16 b (2 + j) (omega arith))
+    go j l h (as-naming n) =
+        let is : isWritten r ≡ true = rw (record-at blocks k) at (n .written) in
+        let all : zeros r (2 + nameEnd r) (14 - nameEnd r) ≡ true = and-right (isSyllable (entryIn r .name)) (zeros r (2 + nameEnd r) (14 - nameEnd r)) is in
+        let e : 2 + nameEnd r + (j - nameEnd r) ≡ 2 + j = omega arith in
+        sym (name-byte blocks (16 * k) fits j h) ∙ rw e at (zeros-zero r (2 + nameEnd r) (14 - nameEnd r) all (j - nameEnd r) (omega arith))
 
 pub padded-sound : (s : Store) (blocks starts : List ℕ) (n : ℕ) → Within blocks starts n → recordsAt s blocks starts n ≡ true → Padded blocks starts n
 unfolding recordsAt
 padded-sound s blocks starts n w is =
     record {
-      each = λ i h. zeros-behind blocks (slot starts i) (w .inside i h) s (every-all n (λ i. recordSound s blocks (slot starts i)) is i h);
+      each = λ i h. filled s blocks (slot starts i) (w .inside i h) (every-all n (λ i. recordSound s blocks (slot starts i)) is i h);
     }
 
 pub padded-less : (blocks starts : List ℕ) (n m : ℕ) → m ≤ n → Padded blocks starts n → Padded blocks starts m
 padded-less blocks starts n m l p = record { each = λ i (h : i < m). p .each i (omega arith) }
 
+module _ (blocks starts : List ℕ) (n : ℕ) (padded : Padded blocks starts n) (i : ℕ) (h : i < n) where
+  pub slot-filled : (k : ℕ) → k ≡ slot starts i → Filled blocks (16 * k)
+  slot-filled k e = rw e (padded .each i h)
+
 -- ---- records of one name belong to one chain
 
-module _ (r q : List ℕ) (r-size : length r ≡ 16) (q-size : length q ≡ 16)
-    (r-zeros : (k : ℕ) → nameEnd r ≤ k → k < 14 → one r (2 + k) ≡ 0) (q-zeros : (k : ℕ) → nameEnd q ≤ k → k < 14 → one q (2 + k) ≡ 0) where
-  names-bytes : entryIn r .name ≡ entryIn q .name → (k : ℕ) → k < 14 → one r (2 + k) ≡ one q (2 + k)
-  names-bytes e k h =
-      let ends : nameEnd r ≡ nameEnd q = sym (name-length r r-size) ∙ ap length e ∙ name-length q q-size in
-      ⊎-elim
-      (λ (l : k < nameEnd r). sym (name-one r r-size k l) ∙ ap (λ s. one s k) e ∙ name-one q q-size k (rw ends at l))
-      (λ (l : nameEnd r ≤ k). r-zeros k l h ∙ sym (q-zeros k (rw ends at l) h))
-      (lt-or-ge k (nameEnd r))
-
-module _ (table : List ℕ) (at bt : ℕ) (agree : (k : ℕ) → k < 14 → one table (at + (2 + k)) ≡ one table (bt + (2 + k))) where
-  byte : (i j k : ℕ) → k < 14 → i ≡ at + (2 + k) → j ≡ bt + (2 + k) → getD table i 0 ≡ getD table j 0
-  unfolding one
-  byte i j k h e f = rw (e, f) (agree k h)
-
-  pub chain-same : chainFrom table at ≡ chainFrom table bt
-  unfolding chainFrom
-  chain-same =
-      rw (
-        four-cong table table (at + 2) (bt + 2) (λ k (h : k < 4). byte (at + 2 + k) (bt + 2 + k) k (omega arith) (omega arith) (omega arith)),
-        four-cong table table (at + 6) (bt + 6) (λ k (h : k < 4). byte (at + 6 + k) (bt + 6 + k) (4 + k) (omega arith) (omega arith) (omega arith)),
-        four-cong table table (at + 10) (bt + 10) (λ k (h : k < 4). byte (at + 10 + k) (bt + 10 + k) (8 + k) (omega arith) (omega arith) (omega arith)),
-        two-cong table table (at + 14) (bt + 14) (λ k (h : k < 2). byte (at + 14 + k) (bt + 14 + k) (12 + k) (omega arith) (omega arith) (omega arith)),
-      )
+chain-same : (table : List ℕ) (at bt : ℕ) → SameWords table at bt → chainFrom table at ≡ chainFrom table bt
+unfolding chainFrom
+chain-same table at bt w = rw (w .first, w .second, w .third, w .last)
 
 module _ (blocks starts : List ℕ) (n : ℕ) (w : Within blocks starts n) (padded : Padded blocks starts n) where
   other-chain : (j i : ℕ) → j < n → i < n → chainAt blocks starts j ≢ chainAt blocks starts i → other blocks starts i j ≡ true
-  unfolding chainAt entryAt other
+  unfolding chainAt other
   other-chain j i h l d =
-      let alike = same (entryAt blocks (slot starts j) .name) (entryAt blocks (slot starts i) .name) in
-      ap not (not-so alike λ e.
-      d (chain-same blocks (16 * slot starts j) (16 * slot starts i)
-      (λ k (b : k < 14).
-      sym (byte-there blocks (slot starts j) (w .inside j h) (2 + k) (omega arith))
-      ∙ names-bytes (recordAt blocks (slot starts j)) (recordAt blocks (slot starts i))
-      (size-there blocks (slot starts j) (w .inside j h)) (size-there blocks (slot starts i) (w .inside i l)) (padded .each j h) (padded .each i l)
-      (same-is (entryAt blocks (slot starts j) .name) (entryAt blocks (slot starts i) .name) e) k b
-      ∙ byte-there blocks (slot starts i) (w .inside i l) (2 + k) (omega arith))))
+      let a = 16 * slot starts j in
+      let b = 16 * slot starts i in
+      rw (entry-at blocks (slot starts j), entry-at blocks (slot starts i))
+      (ap not (not-so (same (entryIn (recordFrom blocks a) .name) (entryIn (recordFrom blocks b) .name))
+      (λ e. d (chain-same blocks a b (same-words blocks a b (w .inside j h) (w .inside i l) (padded .each j h) (padded .each i l) e)))))
 
 -- ---- a chain looked through
 

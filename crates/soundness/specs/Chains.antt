@@ -4,13 +4,13 @@ use mathlib.Core.Path.{_≡_}
 use mathlib.Core.Logic.{_≢_}
 use mathlib.Core.List.{List}
 use lib.ListN.{length, getD}
-use Rattle.records.specs.Numbers.{one, two, four}
-use Rattle.meaning.specs.Name.{recordAt, nameEnd}
+use Rattle.records.specs.Numbers.{two, four}
 use Rattle.soundness.specs.Slots.{slot}
+use Rattle.soundness.specs.RecordRules.{Filled}
 
--- the bytes behind the name of each of the first n records of a directory are zero
+-- zeros stand behind the name of each of the first n records of a directory
 pub record Padded (blocks starts : List ℕ) (n : ℕ) : Type 0 where
-  pub each : (i : ℕ) → i < n → (k : ℕ) → nameEnd (recordAt blocks (slot starts i)) ≤ k → k < 14 → one (recordAt blocks (slot starts i)) (2 + k) ≡ 0
+  pub each : (i : ℕ) → i < n → Filled blocks (16 * slot starts i)
 
 -- the chain of the record that starts at a place of a table: the 14 bytes of its name, mixed
 unfoldable pub chainFrom : List ℕ → ℕ → ℕ

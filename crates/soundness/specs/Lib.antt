@@ -8,10 +8,10 @@ pub mod Seen
 pub mod RuleLoops
 pub mod Rules
 pub mod Slots
+pub mod RecordRules
 pub mod NewNames
 pub mod Chains
 pub mod ChainLaws
-pub mod RecordRules
 pub mod DirectoryRules
 pub mod DirectoryReads
 pub mod Counts

@@ -1,22 +1,20 @@
--- The record that starts at a place of a table: its name read there, and two records' names compared byte by byte.
+-- The record that starts at a place of a table: its name read there, and two records' names compared.
 use Prim.Native.Nat.{ℕ, _+_, _-_, _≤_, _<_}
 use mathlib.Core.Path.{_≡_, refl, sym, ap, _∙_}
-use mathlib.Core.Logic.{⊎-elim}
+use mathlib.Core.Logic.{_≢_, ⊎-elim}
 use mathlib.Core.List.{List}
-use mathlib.Core.Bool.{Bool, true, false, not, _&&_}
+use mathlib.Core.Bool.{Bool, true, _&&_}
 use native.Mathlib.Omega.{arith}
-use lib.ListN.{length}
+use lib.ListN.{length, getD}
 use lib.Seq.{ext-getD}
 use lib.Dec.{eqb}
-use borrow.Author.Tests.{eq-eqb, ne-eqb, eqb-true, eqb-false, not-true}
-use Rattle.records.specs.Rows.{every, lowest}
-use Rattle.records.specs.RowLaws.{lowest-cong, lowest-hit, every-all, lowest-is}
-use Rattle.records.specs.LoopLaws.{every-start, every-step}
-use Rattle.records.specs.NumberLaws.{zeros-cong}
-use Rattle.records.specs.Numbers.{one, zeros}
-use Rattle.records.specs.Tests.{both, lt-or-ge}
+use Rattle.records.specs.Rows.{lowest}
+use Rattle.records.specs.RowLaws.{lowest-cong}
+use Rattle.records.specs.NumberLaws.{two-small, two-cong, four-cong, zeros-cong}
+use Rattle.records.specs.Numbers.{one, two, four, zeros}
+use Rattle.records.specs.Tests.{same-or-not, lt-or-ge}
 use Rattle.meaning.specs.Name.{nameEnd, entryIn, isWritten, isSyllable, same}
-use Rattle.names.specs.SameLaws.{is-same, not-same}
+use Rattle.names.specs.SameLaws.{same-is, is-same}
 use Rattle.names.specs.Syllables.{part}
 use Rattle.names.specs.SyllableLaws.{length-part, one-part}
 use Rattle.names.specs.RecordLaws.{nameEnd-within, name-length, name-one}
@@ -71,76 +69,115 @@ module _ (table : List ℕ) (at : ℕ) (fits : at + 16 ≤ length table) where
 
 -- ---- two records' names
 
--- the first n bytes of two records' names are the same, and none of them is 0
-unfoldable pub alike : List ℕ → List ℕ → ℕ → Bool
-alike r q n = every n (λ j. eqb (one r (2 + j)) (one q (2 + j)) && not (eqb (one r (2 + j)) 0))
+-- the bytes behind the name of the record that starts at a place are zero
+pub record Filled (table : List ℕ) (at : ℕ) : Type 0 where
+  pub zero : (k : ℕ) → nameEnd (recordFrom table at) ≤ k → k < 14 → one table (at + 2 + k) ≡ 0
 
-pub alike-none : (r q : List ℕ) → alike r q 0 ≡ true
-unfolding alike
-alike-none r q = every-start (λ j. eqb (one r (2 + j)) (one q (2 + j)) && not (eqb (one r (2 + j)) 0))
+-- the 14 bytes of two records' names, as numbers, are the same
+pub record SameWords (table : List ℕ) (at bt : ℕ) : Type 0 where
+  pub first : four table (at + 2) ≡ four table (bt + 2)
+  pub second : four table (at + 6) ≡ four table (bt + 6)
+  pub third : four table (at + 10) ≡ four table (bt + 10)
+  pub last : two table (at + 14) ≡ two table (bt + 14)
 
--- a name that ends within its 14 bytes ends at a zero
-ends-zero : (s : List ℕ) → nameEnd s < 14 → one s (2 + nameEnd s) ≡ 0
-unfolding nameEnd
-ends-zero s h = eqb-true (one s (2 + nameEnd s)) 0 (lowest-hit 14 (λ j. eqb (one s (2 + j)) 0) h)
+-- bytes of equal numbers are equal
+module _ (l : List ℕ) (bytes : (j : ℕ) → getD l j 0 < 256) (i j : ℕ) where
+  two-bytes : two l i ≡ two l j → (k : ℕ) → k < 2 → one l (i + k) ≡ one l (j + k)
+  unfolding two one
+  two-bytes e k h =
+      let low : getD l i 0 ≡ getD l j 0 = omega (arith, bytes i, bytes j, bytes (i + 1), bytes (j + 1)) in
+      let high : getD l (i + 1) 0 ≡ getD l (j + 1) 0 = omega (arith, bytes i, bytes j, bytes (i + 1), bytes (j + 1)) in
+      ⊎-elim
+      (λ (z : k ≡ 0). let a : i + k ≡ i = omega arith in let b : j + k ≡ j = omega arith in rw (a, b) low)
+      (λ (d : k ≢ 0). let s : k ≡ 1 = omega arith in rw s high)
+      (same-or-not k 0)
 
-module _ (r q : List ℕ) (i : ℕ) (so-far : alike r q i ≡ true) where
-  pub alike-next : one r (2 + i) ≡ one q (2 + i) → (one r (2 + i) ≡ 0 → ⊥) → alike r q (i + 1) ≡ true
-  unfolding alike
-  alike-next e z =
-      every-step (λ j. eqb (one r (2 + j)) (one q (2 + j)) && not (eqb (one r (2 + j)) 0)) i so-far
-      (rw (eq-eqb (one r (2 + i)) (one q (2 + i)) e, ne-eqb (one r (2 + i)) 0 z))
+module _ (l : List ℕ) (bytes : (j : ℕ) → getD l j 0 < 256) (i j : ℕ) where
+  four-bytes : four l i ≡ four l j → (k : ℕ) → k < 4 → one l (i + k) ≡ one l (j + k)
+  unfolding four
+  four-bytes e k h =
+      let low : two l i ≡ two l j = omega (arith, two-small l bytes i, two-small l bytes j, two-small l bytes (i + 2), two-small l bytes (j + 2)) in
+      let high : two l (i + 2) ≡ two l (j + 2) = omega (arith, two-small l bytes i, two-small l bytes j, two-small l bytes (i + 2), two-small l bytes (j + 2)) in
+      ⊎-elim
+      (λ (b : k < 2). two-bytes l bytes i j low k b)
+      (λ (b : 2 ≤ k).
+      let s : i + 2 + (k - 2) ≡ i + k = omega arith in
+      let t : j + 2 + (k - 2) ≡ j + k = omega arith in
+      rw (s, t) at (two-bytes l bytes (i + 2) (j + 2) high (k - 2) (omega arith)))
+      (lt-or-ge k 2)
 
-  each : (j : ℕ) → j < i → (one r (2 + j) ≡ one q (2 + j)) × (eqb (one r (2 + j)) 0 ≡ false)
-  unfolding alike
-  each j h =
-      let (same-byte, some) = both (eqb (one r (2 + j)) (one q (2 + j))) (not (eqb (one r (2 + j)) 0)) (every-all i (λ j. eqb (one r (2 + j)) (one q (2 + j)) && not (eqb (one r (2 + j)) 0)) so-far j h) in
-      (eqb-true (one r (2 + j)) (one q (2 + j)) same-byte, not-true (eqb (one r (2 + j)) 0) some)
+module _ (table : List ℕ) (at bt : ℕ) where
+  abbrev named-same : Bool
+  named-same = same (entryIn (recordFrom table at) .name) (entryIn (recordFrom table bt) .name)
 
-  module _ (r-size : length r ≡ 16) (q-size : length q ≡ 16) (within : i ≤ 14) where
-    -- both names end at i
-    ends-r : (i < 14 → one r (2 + i) ≡ 0) → nameEnd r ≡ i
-    unfolding nameEnd
-    ends-r z = lowest-is 14 (λ j. eqb (one r (2 + j)) 0) i within (λ j h. each j h .1) (λ l. eq-eqb (one r (2 + i)) 0 (z l))
+  abbrev Agree : Type 0
+  Agree = (k : ℕ) → k < 14 → one table (at + 2 + k) ≡ one table (bt + 2 + k)
 
-    ends-q : (i < 14 → one q (2 + i) ≡ 0) → nameEnd q ≡ i
-    unfolding nameEnd
-    ends-q z =
-        lowest-is 14 (λ j. eqb (one q (2 + j)) 0) i within
-        (λ j h. let e = each j h in ap (λ b. eqb b 0) (sym (e .0)) ∙ e .1) (λ l. eq-eqb (one q (2 + i)) 0 (z l))
+  agree-words : Agree → SameWords table at bt
+  agree-words agree =
+      record {
+        first = four-cong table table (at + 2) (bt + 2) (λ k (h : k < 4). byte (at + 2 + k) (bt + 2 + k) k (omega arith) refl refl);
+        second = four-cong table table (at + 6) (bt + 6) (λ k (h : k < 4). byte (at + 6 + k) (bt + 6 + k) (4 + k) (omega arith) (omega arith) (omega arith));
+        third = four-cong table table (at + 10) (bt + 10) (λ k (h : k < 4). byte (at + 10 + k) (bt + 10 + k) (8 + k) (omega arith) (omega arith) (omega arith));
+        last = two-cong table table (at + 14) (bt + 14) (λ k (h : k < 2). byte (at + 14 + k) (bt + 14 + k) (12 + k) (omega arith) (omega arith) (omega arith));
+      }
+    where
+      byte : (i j k : ℕ) → k < 14 → i ≡ at + 2 + k → j ≡ bt + 2 + k → getD table i 0 ≡ getD table j 0
+      byte i j k h e f = unfold one in rw (e, f) (agree k h)
 
-    pub names-alike : (i < 14 → (one r (2 + i) ≡ 0) × (one q (2 + i) ≡ 0)) → same (entryIn r .name) (entryIn q .name) ≡ true
-    unfolding one
-    names-alike z =
-        let r-end : nameEnd r ≡ i = ends-r (λ l. z l .0) in
-        let q-end : nameEnd q ≡ i = ends-q (λ l. z l .1) in
-        is-same (entryIn r .name) (entryIn q .name)
-        (ext-getD 0 (entryIn r .name) (entryIn q .name) (name-length r r-size ∙ r-end ∙ sym (name-length q q-size ∙ q-end))
-        (λ j (h : j < length (entryIn r .name)).
-        let b : j < i = rw (name-length r r-size, r-end) at h in
-        name-one r r-size j (rw r-end b) ∙ each j b .0 ∙ sym (name-one q q-size j (rw q-end b))))
+  words-agree : ((j : ℕ) → getD table j 0 < 256) → SameWords table at bt → Agree
+  words-agree bytes w k h =
+      ⊎-elim
+      (λ (b : k < 4). four-bytes table bytes (at + 2) (bt + 2) (w .first) k b)
+      (λ (b : 4 ≤ k). ⊎-elim
+      (λ (c : k < 8). moved 6 4 (omega arith) (omega arith) (four-bytes table bytes (at + 6) (bt + 6) (w .second) (k - 4) (omega arith)))
+      (λ (c : 8 ≤ k). ⊎-elim
+      (λ (d : k < 12). moved 10 8 (omega arith) (omega arith) (four-bytes table bytes (at + 10) (bt + 10) (w .third) (k - 8) (omega arith)))
+      (λ (d : 12 ≤ k). moved 14 12 (omega arith) (omega arith) (two-bytes table bytes (at + 14) (bt + 14) (w .last) (k - 12) (omega arith)))
+      (lt-or-ge k 12))
+      (lt-or-ge k 8))
+      (lt-or-ge k 4)
+    where
+      moved : (m n : ℕ) → m ≡ 2 + n → n ≤ k → one table (at + m + (k - n)) ≡ one table (bt + m + (k - n)) → one table (at + 2 + k) ≡ one table (bt + 2 + k)
+      moved m n e l same-byte =
+          let s : at + m + (k - n) ≡ at + 2 + k = omega arith in
+          let t : bt + m + (k - n) ≡ bt + 2 + k = omega arith in
+          rw (s, t) at same-byte
 
-    pub names-differ : i < 14 → (one r (2 + i) ≡ one q (2 + i) → ⊥) → same (entryIn r .name) (entryIn q .name) ≡ false
-    names-differ l d =
-        not-same (entryIn r .name) (entryIn q .name) λ e.
-        let ends : nameEnd r ≡ nameEnd q = sym (name-length r r-size) ∙ ap length e ∙ name-length q q-size in
+  module _ (fits : at + 16 ≤ length table) (fits′ : bt + 16 ≤ length table) where
+    abbrev ra : List ℕ
+    ra = recordFrom table at
+
+    abbrev rb : List ℕ
+    rb = recordFrom table bt
+
+    -- where zeros stand behind both, names are the same just where the words are
+    pub same-words : Filled table at → Filled table bt → named-same ≡ true → SameWords table at bt
+    same-words filled filled′ is =
+        let e : entryIn ra .name ≡ entryIn rb .name = same-is (entryIn ra .name) (entryIn rb .name) is in
+        let ends : nameEnd ra ≡ nameEnd rb = sym (name-length ra (record-length table at fits)) ∙ ap length e ∙ name-length rb (record-length table bt fits′) in
+        agree-words (λ k (h : k < 14).
         ⊎-elim
-        (λ (h : i < nameEnd r).
-        d (sym (name-one r r-size i h) ∙ ap (λ s. one s i) e ∙ name-one q q-size i (rw ends at h)))
-        (λ (h : nameEnd r ≤ i). d (zero-r h ∙ sym (zero-q (rw ends at h))))
-        (lt-or-ge i (nameEnd r))
-      where
-        ended : (s : List ℕ) → ((j : ℕ) → j < i → eqb (one s (2 + j)) 0 ≡ false) → nameEnd s ≤ i → one s (2 + i) ≡ 0
-        ended s some h =
-            let low : nameEnd s ≡ i = ⊎-elim
-            (λ (m : nameEnd s < i). absurd (eqb-false (one s (2 + nameEnd s)) 0 (some (nameEnd s) m) (ends-zero s (omega arith))))
-            (λ (m : i ≤ nameEnd s). omega arith)
-            (lt-or-ge (nameEnd s) i) in
-            let z : one s (2 + nameEnd s) ≡ 0 = ends-zero s (omega arith) in
-            rw low at z
+        (λ (l : k < nameEnd ra).
+        sym (name-byte table at fits k h) ∙ sym (name-one ra (record-length table at fits) k l)
+        ∙ ap (λ s. one s k) e
+        ∙ name-one rb (record-length table bt fits′) k (rw ends at l) ∙ name-byte table bt fits′ k h)
+        (λ (l : nameEnd ra ≤ k). filled .zero k l h ∙ sym (filled′ .zero k (rw ends at l) h))
+        (lt-or-ge k (nameEnd ra)))
 
-        zero-r : nameEnd r ≤ i → one r (2 + i) ≡ 0
-        zero-r h = ended r (λ j m. each j m .1) h
+    ends-same : ((k : ℕ) → k < 14 → one ra (2 + k) ≡ one rb (2 + k)) → nameEnd ra ≡ nameEnd rb
+    unfolding nameEnd
+    ends-same alike = lowest-cong 14 (λ i. eqb (one ra (2 + i)) 0) (λ i. eqb (one rb (2 + i)) 0) (λ i h. ap (λ b. eqb b 0) (alike i h))
 
-        zero-q : nameEnd q ≤ i → one q (2 + i) ≡ 0
-        zero-q h = ended q (λ j m. let e = each j m in ap (λ b. eqb b 0) (sym (e .0)) ∙ e .1) h
+    pub words-same : ((j : ℕ) → getD table j 0 < 256) → SameWords table at bt → named-same ≡ true
+    unfolding one
+    words-same bytes w =
+        let alike : (k : ℕ) → k < 14 → one ra (2 + k) ≡ one rb (2 + k) = λ k h. name-byte table at fits k h ∙ words-agree bytes w k h ∙ sym (name-byte table bt fits′ k h) in
+        let ends : nameEnd ra ≡ nameEnd rb = ends-same alike in
+        let within : nameEnd ra ≤ 14 = end-within table at fits in
+        is-same (entryIn ra .name) (entryIn rb .name)
+        (ext-getD 0 (entryIn ra .name) (entryIn rb .name)
+        (name-length ra (record-length table at fits) ∙ ends ∙ sym (name-length rb (record-length table bt fits′)))
+        (λ j (h : j < length (entryIn ra .name)).
+        let b : j < nameEnd ra = rw (name-length ra (record-length table at fits)) at h in
+        name-one ra (record-length table at fits) j b ∙ alike j (omega arith) ∙ sym (name-one rb (record-length table bt fits′) j (rw ends at b))))

@@ -23,6 +23,7 @@ ghost use Rattle.names.specs.RecordNames.{recordFrom};
 ghost use Rattle.soundness.specs.Rules.{countsTo, directoryForm, placeCount, placedBelow, deeperThan, newAt, recordsAt, namesAt, deeperAt, Countable, Counted, isNamedBy, allNamedBy};
 ghost use Rattle.soundness.specs.Seen.{filesStore, channelsStore, recordTables};
 ghost use Rattle.soundness.specs.Slots.{directoriesStore, Starts, slot, Placed, Within};
+ghost use Rattle.soundness.specs.RecordRules.{Filled};
 ghost use Rattle.soundness.specs.Chains.{Padded, chainFrom, chainAt, Last, Links};
 ghost use Rattle.soundness.specs.DirectoryRules.{directoryRule, directoriesRule};
 ghost use Rattle.soundness.specs.Counts.{Counts};
@@ -334,23 +335,22 @@ fn is_written(table: &[u8], at: usize) -> bool
     zeros_at(table, at + 2 + end, 14 - end)
 }
 
-// Whether the records that start at two places have the same name.
+// Whether the records that start at two places have the same name. Zeros stand behind both, so their bytes are compared
+// four at a time.
 fn same_name(table: &[u8], at: usize, other: usize) -> bool
-    requires { ⌜ (at + 16 ≤ length (now table)) × (other + 16 ≤ length (now table)) ⌝ }
+    requires { ⌜ (at + 16 ≤ length (now table)) × (other + 16 ≤ length (now table)) ⌝ ∗ ⌜ Filled (now table) at ⌝ ∗ ⌜ Filled (now table) other ⌝ }
     ensures { λ r. ⌜ r ≡ same (entryIn (recordFrom (now (table .entry)) at) .name) (entryIn (recordFrom (now (table .entry)) other) .name) ⌝ }
 {
-    let mut i: usize = 0;
-    while i < 14 {
-        let b = one_at(table, at + 2 + i);
-        if b != one_at(table, other + 2 + i) {
-            return false;
-        }
-        if b == 0 {
-            return true;
-        }
-        i += 1;
+    if four_at(table, at + 2) != four_at(table, other + 2) {
+        return false;
     }
-    true
+    if four_at(table, at + 6) != four_at(table, other + 6) {
+        return false;
+    }
+    if four_at(table, at + 10) != four_at(table, other + 10) {
+        return false;
+    }
+    two_at(table, at + 14) == two_at(table, other + 14)
 }
 
 // Whether record k of the block table is blank, or names a file in use, not the root, by a syllable.
@@ -401,7 +401,7 @@ fn records_sound(blocks: &[u8], file_records: &[u8], starts: &[u16; 64], n: usiz
 
 // Whether record i of a directory is blank, or no record before it has its name.
 fn name_new(blocks: &[u8], starts: &[u16; 64], i: usize) -> bool
-    requires { ⌜ Within (now blocks) (now starts) (i + 1) ⌝ }
+    requires { ⌜ Within (now blocks) (now starts) (i + 1) ⌝ ∗ ⌜ Padded (now blocks) (now starts) (i + 1) ⌝ }
     ensures { λ r. ⌜ r ≡ newAt (now (blocks .entry)) (now (starts .entry)) i ⌝ }
 {
     let at = 16 * slot_at(starts, i);
@@ -420,7 +420,7 @@ fn name_new(blocks: &[u8], starts: &[u16; 64], i: usize) -> bool
 
 // Whether no two of a directory's n records have the same name, each compared with every one before it.
 fn names_compared(blocks: &[u8], starts: &[u16; 64], n: usize) -> bool
-    requires { ⌜ Within (now blocks) (now starts) n ⌝ }
+    requires { ⌜ Within (now blocks) (now starts) n ⌝ ∗ ⌜ Padded (now blocks) (now starts) n ⌝ }
     ensures { λ r. ⌜ r ≡ namesAt (now (blocks .entry)) (now (starts .entry)) n ⌝ }
 {
     let mut i: usize = 0;

@@ -8,7 +8,7 @@ use lib.ListN.{getD}
 use Rattle.soundness.specs.NewNames.{other, blank-new, compared-new, other-name, same-old}
 use Rattle.soundness.specs.Slots.{Within, slot-small, slot-fits}
 use Rattle.soundness.specs.Chains.{Padded, Links}
-use Rattle.soundness.specs.ChainLaws.{Looked, looked-start, looked-next, looked-all}
+use Rattle.soundness.specs.ChainLaws.{slot-filled, Looked, looked-start, looked-next, looked-all}
 use borrow.Author.Needs.{needs}
 use Rattle.soundness.proofs.chain_new.Statement.{statement}
 use Rattle.soundness.proofs.chain_new.Tie as tie
@@ -71,9 +71,11 @@ mul-same-name c =
 same-name-requires : tie.Need-same-name-requires Inv-loop μ-loop
 same-name-requires c κs =
     let l = c .before .before in
-    let s = l .before .before .before in (
-      slot-fits _ _ _ (s .before .before .pre .0) _ (inside _ _ _ _ (l .loop .inv) (search needs)) _ (c .slot-at2 .ensures),
-      slot-fits _ _ _ (s .before .before .pre .0) _ (search needs) _ (s .slot-at .ensures),
+    let s = l .before .before .before in
+    let p = s .before .before .pre in
+    let h = inside _ _ _ _ (l .loop .inv) (search needs) in (
+      (slot-fits _ _ _ (p .0) _ h _ (c .slot-at2 .ensures), slot-fits _ _ _ (p .0) _ (search needs) _ (s .slot-at .ensures)),
+      (slot-filled _ _ _ (p .1 .0) _ h _ (c .slot-at2 .ensures), slot-filled _ _ _ (p .1 .0) _ (search needs) _ (s .slot-at .ensures)),
     )
 
 returns-2 : tie.Need-returns-2 Inv-loop μ-loop

@@ -8,6 +8,7 @@ use Rattle.records.specs.LoopLaws.{every-start, every-step}
 use Rattle.soundness.specs.RuleLoops.{rules-passed}
 use Rattle.soundness.specs.NewNames.{other, blank-new, compared-new, other-name, same-old}
 use Rattle.soundness.specs.Slots.{slot-small, slot-fits}
+use Rattle.soundness.specs.ChainLaws.{slot-filled}
 use borrow.Author.Needs.{needs}
 use Rattle.soundness.proofs.name_new.Statement.{statement}
 use Rattle.soundness.proofs.name_new.Tie as tie
@@ -19,13 +20,13 @@ abbrev μ-loop : tie.MeasureT-loop
 μ-loop blocks starts i at j₀ j = i - j
 
 slot-at-requires : tie.Need-slot-at-requires Inv-loop μ-loop
-slot-at-requires c κs = slot-small _ _ _ (c .before .pre) _ (search needs)
+slot-at-requires c κs = slot-small _ _ _ (c .before .pre .0) _ (search needs)
 
 mul-at : tie.Need-mul-at Inv-loop μ-loop
-mul-at c = let h = slot-fits _ _ _ (c .before .before .pre) _ (search needs) _ (c .slot-at .ensures) in omega arith
+mul-at c = let h = slot-fits _ _ _ (c .before .before .pre .0) _ (search needs) _ (c .slot-at .ensures) in omega arith
 
 is-blank-requires : tie.Need-is-blank-requires Inv-loop μ-loop
-is-blank-requires c κs = slot-fits _ _ _ (c .before .before .pre) _ (search needs) _ (c .slot-at .ensures)
+is-blank-requires c κs = slot-fits _ _ _ (c .before .before .pre .0) _ (search needs) _ (c .slot-at .ensures)
 
 returns : tie.Need-returns Inv-loop μ-loop
 returns c = search blank-new
@@ -34,15 +35,18 @@ loop-holds : tie.Need-loop-holds Inv-loop μ-loop
 loop-holds c = (search needs, search every-start)
 
 slot-at-requires-2 : tie.Need-slot-at-requires-2 Inv-loop μ-loop
-slot-at-requires-2 c κs = slot-small _ _ _ (c .before .before .before .before .before .before .pre) _ (search needs)
+slot-at-requires-2 c κs = slot-small _ _ _ (c .before .before .before .before .before .before .pre .0) _ (search needs)
 
 mul-same-name : tie.Need-mul-same-name Inv-loop μ-loop
-mul-same-name c = let h = slot-fits _ _ _ (c .before .before .before .before .before .before .before .pre) _ (search needs) _ (c .slot-at2 .ensures) in omega arith
+mul-same-name c = let h = slot-fits _ _ _ (c .before .before .before .before .before .before .before .pre .0) _ (search needs) _ (c .slot-at2 .ensures) in omega arith
 
 same-name-requires : tie.Need-same-name-requires Inv-loop μ-loop
 same-name-requires c κs =
     let s = c .before .before .before .before .before in
-    (slot-fits _ _ _ (s .before .before .pre) _ (search needs) _ (c .slot-at2 .ensures), slot-fits _ _ _ (s .before .before .pre) _ (search needs) _ (s .slot-at .ensures))
+    let p = s .before .before .pre in (
+      (slot-fits _ _ _ (p .0) _ (search needs) _ (c .slot-at2 .ensures), slot-fits _ _ _ (p .0) _ (search needs) _ (s .slot-at .ensures)),
+      (slot-filled _ _ _ (p .1) _ (search needs) _ (c .slot-at2 .ensures), slot-filled _ _ _ (p .1) _ (search needs) _ (s .slot-at .ensures)),
+    )
 
 returns-2 : tie.Need-returns-2 Inv-loop μ-loop
 returns-2 c =

@@ -8,6 +8,7 @@ use Rattle.records.specs.LoopLaws.{every-start}
 use Rattle.soundness.specs.RuleLoops.{rule-passed, rule-failed, rules-passed}
 use Rattle.soundness.specs.Rules.{newAt, namesAt}
 use Rattle.soundness.specs.Slots.{within-less}
+use Rattle.soundness.specs.ChainLaws.{padded-less}
 use borrow.Author.Needs.{needs}
 use Rattle.soundness.proofs.names_compared.Statement.{statement}
 use Rattle.soundness.proofs.names_compared.Tie as tie
@@ -26,7 +27,9 @@ loop-holds : tie.Need-loop-holds Inv-loop μ-loop
 loop-holds c = (search needs, search every-start)
 
 name-new-requires : tie.Need-name-new-requires Inv-loop μ-loop
-name-new-requires c κs = within-less _ _ _ _ (search needs) (c .before .before .before .pre)
+name-new-requires c κs =
+    let p = c .before .before .before .pre in
+    (within-less _ _ _ _ (search needs) (p .0), padded-less _ _ _ _ (search needs) (p .1))
 
 returns : tie.Need-returns Inv-loop μ-loop
 returns c = let d = c .before in rule-failed (newAt _ _) _ _ (d .name-new .ensures) _ (search needs) (c .if1 .taken) ∙ all _ _ _

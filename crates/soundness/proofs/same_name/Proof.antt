@@ -1,122 +1,134 @@
--- The bytes passed are the same in both names, and none is zero. The measure is how many bytes are left.
-use Prim.Native.Nat.{ℕ, _+_, _-_, _≤_, _<_}
+use Prim.Native.Nat.{ℕ, _+_, _≤_, _<_}
 use mathlib.Core.Path.{_≡_, sym, _∙_}
 use mathlib.Core.List.{List}
 use mathlib.Core.Bool.{Bool, true, false}
 use native.Mathlib.Omega.{arith}
-use lib.ListN.{length}
-use Rattle.records.specs.Numbers.{one}
+use lib.ListN.{length, getD}
+use lib.Dec.{eqb}
+use borrow.Author.Tests.{eq-eqb, eqb-true}
+use Rattle.records.specs.Numbers.{two, four}
 use Rattle.meaning.specs.Name.{same, entryIn}
-use Rattle.names.specs.RecordNames.{recordFrom, record-length}
-use Rattle.soundness.specs.RecordRules.{name-byte, alike, alike-none, alike-next, names-alike, names-differ}
+use Rattle.names.specs.RecordNames.{recordFrom}
+use Rattle.soundness.specs.Use.{not-so, both-ways}
+use Rattle.soundness.specs.RecordRules.{Filled, SameWords, same-words, words-same}
 use borrow.Author.Needs.{needs}
 use Rattle.soundness.proofs.same_name.Statement.{statement}
 use Rattle.soundness.proofs.same_name.Tie as tie
 
-module _ (table : List ℕ) (at other : ℕ) (fits : at + 16 ≤ length table) (fits′ : other + 16 ≤ length table) where
-  abbrev first : List ℕ
-  first = recordFrom table at
-
-  abbrev second : List ℕ
-  second = recordFrom table other
-
+module _ (table : List ℕ) (at bt : ℕ) (fits : (at + 16 ≤ length table) × (bt + 16 ≤ length table)) (filled : Filled table at) (filled′ : Filled table bt) where
   abbrev verdict : Bool
-  verdict = same (entryIn first .name) (entryIn second .name)
+  verdict = same (entryIn (recordFrom table at) .name) (entryIn (recordFrom table bt) .name)
 
-  module _ (i : ℕ) (h : i < 14) (so-far : alike first second i ≡ true) (b d : ℕ) (b-is : b ≡ one table (at + 2 + i)) (d-is : d ≡ one table (other + 2 + i)) where
-    byte : one first (2 + i) ≡ b
-    byte = name-byte table at fits i h ∙ sym b-is
+  words : verdict ≡ true → SameWords table at bt
+  words = same-words table at bt (fits .0) (fits .1) filled filled′
 
-    byte′ : one second (2 + i) ≡ d
-    byte′ = name-byte table other fits′ i h ∙ sym d-is
+  first-differs : (a b : ℕ) → a ≡ four table (at + 2) → b ≡ four table (bt + 2) → (a ≡ b → ⊥) → false ≡ verdict
+  first-differs a b a-is b-is d = sym (not-so verdict (λ e. d (a-is ∙ words e .first ∙ sym b-is)))
 
-    differ : (b ≡ d → ⊥) → false ≡ verdict
-    differ n =
-        sym (names-differ first second i so-far (record-length table at fits) (record-length table other fits′) (omega arith) h
-        (λ e. n (sym byte ∙ e ∙ byte′)))
+  second-differs : (a b : ℕ) → a ≡ four table (at + 6) → b ≡ four table (bt + 6) → (a ≡ b → ⊥) → false ≡ verdict
+  second-differs a b a-is b-is d = sym (not-so verdict (λ e. d (a-is ∙ words e .second ∙ sym b-is)))
 
-    ended : (b ≡ d) → b ≡ 0 → true ≡ verdict
-    ended e z =
-        sym (names-alike first second i so-far (record-length table at fits) (record-length table other fits′) (omega arith)
-        (λ l. (byte ∙ z, byte′ ∙ sym e ∙ z)))
+  third-differs : (a b : ℕ) → a ≡ four table (at + 10) → b ≡ four table (bt + 10) → (a ≡ b → ⊥) → false ≡ verdict
+  third-differs a b a-is b-is d = sym (not-so verdict (λ e. d (a-is ∙ words e .third ∙ sym b-is)))
 
-    next : (b ≡ d) → (b ≡ 0 → ⊥) → alike first second (i + 1) ≡ true
-    next e n = alike-next first second i so-far (byte ∙ e ∙ sym byte′) (λ z. n (sym byte ∙ z))
+  last-decides : ((j : ℕ) → getD table j 0 < 256) → four table (at + 2) ≡ four table (bt + 2) → four table (at + 6) ≡ four table (bt + 6) → four table (at + 10) ≡ four table (bt + 10) →
+      (a b : ℕ) → a ≡ two table (at + 14) → b ≡ two table (bt + 14) → eqb a b ≡ verdict
+  last-decides bytes x y z a b a-is b-is =
+      both-ways (eqb a b) verdict
+      (λ e. words-same table at bt (fits .0) (fits .1) bytes (record { first = x; second = y; third = z; last = sym a-is ∙ eqb-true a b e ∙ b-is }))
+      (λ e. eq-eqb a b (a-is ∙ words e .last ∙ sym b-is))
 
-  full : (i : ℕ) → i ≤ 14 → 14 ≤ i → alike first second i ≡ true → true ≡ verdict
-  full i l h so-far =
-      sym (names-alike first second i so-far (record-length table at fits) (record-length table other fits′) l (λ m. absurd (omega arith)))
+add-four-at : tie.Need-add-four-at
+add-four-at c = search needs
 
-abbrev Inv-loop : tie.InvT-loop
-Inv-loop table at other i₀ i = (i ≤ 14) × (alike (recordFrom table at) (recordFrom table other) i ≡ true)
+four-at-requires : tie.Need-four-at-requires
+four-at-requires c κs = search needs
 
-abbrev μ-loop : tie.MeasureT-loop
-μ-loop table at other i₀ i = 14 - i
+add-four-at-2 : tie.Need-add-four-at-2
+add-four-at-2 c = search needs
 
-loop-holds : tie.Need-loop-holds Inv-loop μ-loop
-loop-holds c = (search needs, search alike-none)
+four-at-requires-2 : tie.Need-four-at-requires-2
+four-at-requires-2 c κs = search needs
 
-add-one-at : tie.Need-add-one-at Inv-loop μ-loop
-add-one-at c = search needs
+returns : tie.Need-returns
+returns c = search first-differs
 
-add-one-at-2 : tie.Need-add-one-at-2 Inv-loop μ-loop
-add-one-at-2 c = search needs
+add-four-at-3 : tie.Need-add-four-at-3
+add-four-at-3 c = search needs
 
-one-at-requires : tie.Need-one-at-requires Inv-loop μ-loop
-one-at-requires c κs = search needs
+four-at-requires-3 : tie.Need-four-at-requires-3
+four-at-requires-3 c κs = search needs
 
-add-one-at-3 : tie.Need-add-one-at-3 Inv-loop μ-loop
-add-one-at-3 c = search needs
+add-four-at-4 : tie.Need-add-four-at-4
+add-four-at-4 c = search needs
 
-add-one-at-4 : tie.Need-add-one-at-4 Inv-loop μ-loop
-add-one-at-4 c = search needs
+four-at-requires-4 : tie.Need-four-at-requires-4
+four-at-requires-4 c κs = search needs
 
-one-at-requires-2 : tie.Need-one-at-requires-2 Inv-loop μ-loop
-one-at-requires-2 c κs = search needs
+returns-2 : tie.Need-returns-2
+returns-2 c = search second-differs
 
-returns : tie.Need-returns Inv-loop μ-loop
-returns c =
-    let d = c .before in
-    let l = d .before .before .before in
-    differ _ _ _ (search needs) (search needs) _ (search needs) (l .loop .inv .1) _ _ (d .before .one-at .ensures) (d .one-at2 .ensures) (c .if1 .taken)
+add-four-at-5 : tie.Need-add-four-at-5
+add-four-at-5 c = search needs
 
-returns-2 : tie.Need-returns-2 Inv-loop μ-loop
-returns-2 c =
-    let d = c .before .before in
-    let l = d .before .before .before in
-    ended _ _ _ (search needs) (search needs) _ (search needs) (l .loop .inv .1) _ _ (d .before .one-at .ensures) (d .one-at2 .ensures) (c .before .if1 .left) (c .if2 .taken)
+four-at-requires-5 : tie.Need-four-at-requires-5
+four-at-requires-5 c κs = search needs
 
-add-i : tie.Need-add-i Inv-loop μ-loop
-add-i c = search needs
+add-four-at-6 : tie.Need-add-four-at-6
+add-four-at-6 c = search needs
 
-loop-less : tie.Need-loop-less Inv-loop μ-loop
-loop-less c = search needs
+four-at-requires-6 : tie.Need-four-at-requires-6
+four-at-requires-6 c κs = search needs
 
-loop-again : tie.Need-loop-again Inv-loop μ-loop
-loop-again c =
-    let d = c .before .before in
-    let l = d .before .before .before in
-    (search needs, next _ _ _ (search needs) (search needs) _ (search needs) (l .loop .inv .1) _ _ (d .before .one-at .ensures) (d .one-at2 .ensures) (c .before .if1 .left) (c .if2 .left))
+returns-3 : tie.Need-returns-3
+returns-3 c = search third-differs
 
-returns-3 : tie.Need-returns-3 Inv-loop μ-loop
-returns-3 c = full _ _ _ (search needs) (search needs) _ (search needs) (search needs) (c .before .loop .inv .1)
+add-two-at : tie.Need-add-two-at
+add-two-at c = search needs
+
+two-at-requires : tie.Need-two-at-requires
+two-at-requires c κs = search needs
+
+add-two-at-2 : tie.Need-add-two-at-2
+add-two-at-2 c = search needs
+
+two-at-requires-2 : tie.Need-two-at-requires-2
+two-at-requires-2 c κs = search needs
+
+returns-4 : tie.Need-returns-4
+returns-4 c =
+    let z = c .before .before in
+    let y = z .before .before .before in
+    let x = y .before .before .before in
+    let k = x .before .before .before in
+    let p = k .before .pre in
+    last-decides _ _ _ (p .0) (p .1 .0) (p .1 .1) (λ j. omega (arith, k .shared-slice-known .given j))
+    (sym (x .before .before .four-at .ensures) ∙ x .if1 .left ∙ x .before .four-at2 .ensures)
+    (sym (y .before .before .four-at3 .ensures) ∙ y .if2 .left ∙ y .before .four-at4 .ensures)
+    (sym (z .before .before .four-at5 .ensures) ∙ z .if3 .left ∙ z .before .four-at6 .ensures)
+    _ _ (c .before .two-at .ensures) (c .two-at2 .ensures)
 
 pub same-name-spec : {M : Type 1} → statement M
 same-name-spec =
     tie.close
     (tie.spec
-    Inv-loop
-    μ-loop
-    loop-holds
-    add-one-at
-    add-one-at-2
-    one-at-requires
-    add-one-at-3
-    add-one-at-4
-    one-at-requires-2
+    add-four-at
+    four-at-requires
+    add-four-at-2
+    four-at-requires-2
     returns
+    add-four-at-3
+    four-at-requires-3
+    add-four-at-4
+    four-at-requires-4
     returns-2
-    add-i
-    loop-less
-    loop-again
-    returns-3)
+    add-four-at-5
+    four-at-requires-5
+    add-four-at-6
+    four-at-requires-6
+    returns-3
+    add-two-at
+    two-at-requires
+    add-two-at-2
+    two-at-requires-2
+    returns-4)
