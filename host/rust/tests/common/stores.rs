@@ -1,0 +1,48 @@
+//! Stores of many sizes to begin with.
+
+use model::random::Random;
+use model::Memory;
+
+/// Blocks, files and channels.
+pub type Sizes = (usize, usize, usize);
+
+/// Small sizes, where calls soon run out of room.
+pub fn small(random: &mut Random) -> Sizes {
+    (
+        1 + random.below(8),
+        1 + random.below(10),
+        1 + random.below(4),
+    )
+}
+
+/// Sizes of the whole range, the ends more often.
+pub fn any(random: &mut Random) -> Sizes {
+    let mut of = |most| match random.below(8) {
+        0 => 1,
+        1 => most,
+        _ => 1 + random.below(most),
+    };
+    (of(128), of(64), of(16))
+}
+
+/// A prepared store over blocks of any bytes.
+pub fn prepared(random: &mut Random, (blocks, files, channels): Sizes) -> Memory {
+    let mut memory = Memory::prepared(blocks, files, channels);
+    let fill = random.number() as u8;
+    memory.blocks.fill(fill);
+    memory
+}
+
+/// The largest tables: /d has so many records, all of them names of /a.
+pub fn with_directory(records: usize) -> Memory {
+    let mut memory = Memory::prepared(128, 64, 16);
+    let mut tables = memory.lend();
+    tables.mkdir(b"/d").expect("room");
+    tables.create(b"/a").expect("room");
+    for n in 0..records {
+        tables
+            .link(b"/a", format!("/d/n{n}").as_bytes())
+            .expect("room");
+    }
+    memory
+}
