@@ -11,7 +11,7 @@ use common::calls::Caller;
 use common::damage::damage;
 use common::pair::Pair;
 use common::reached::Reached;
-use common::stores::{any, prepared, small, with_directory, Sizes};
+use common::stores::{any, deep, prepared, small, way_down, with_directory, Sizes};
 use model::random::Random;
 use model::{Call, Memory};
 
@@ -59,6 +59,16 @@ fn long_directory(seed: u64, records: usize, count: usize, reached: &mut Reached
         pair.make(&call, 0, reached);
     }
     let mut caller = Caller::new(seed).knows(b"/a").knows(b"/d/n9").knows(b"/d");
+    calls(&mut pair, &mut caller, count, reached);
+}
+
+/// A row of calls on a store as deep as can be.
+fn deep_tree(seed: u64, count: usize, reached: &mut Reached) {
+    let mut pair = Pair::new(seed, deep());
+    let mut caller = Caller::new(seed);
+    for name in way_down() {
+        caller = caller.knows(&name);
+    }
     calls(&mut pair, &mut caller, count, reached);
 }
 
@@ -143,6 +153,15 @@ fn rows_of_calls_on_long_directories() {
 }
 
 #[test]
+fn rows_of_calls_on_deep_trees() {
+    let mut reached = Reached::default();
+    for seed in seeds(7, 500) {
+        deep_tree(seed, 60, &mut reached);
+    }
+    print(&reached, "deep trees");
+}
+
+#[test]
 fn damaged_tables() {
     let mut reached = Reached::default();
     let (mut sound, mut tables) = (0, 0);
@@ -172,8 +191,8 @@ fn tables_of_all_lengths() {
 fn every_report_of_every_call() {
     let mut reached = Reached::default();
     for seed in seeds(6, 1) {
-        (seed..seed + 400).for_each(|seed| drop(row(seed, small, 100, &mut reached)));
-        (seed..seed + 50).for_each(|seed| drop(damaged(seed, 20, &mut reached)));
+        (seed..seed + 400).for_each(|seed| _ = row(seed, small, 100, &mut reached));
+        (seed..seed + 50).for_each(|seed| _ = damaged(seed, 20, &mut reached));
         lengths(&mut Caller::new(seed), seed, (0, 3, 2), &mut reached);
         long_directory(seed, 2048, 20, &mut reached);
     }

@@ -171,7 +171,12 @@ fn name(random: &mut Random, out: &mut Vec<u8>) {
         0 => out.extend(random.pick(&RARE)),
         1 => any_name(random, out),
         // many names in one directory
-        2 | 3 => out.extend(format!("/d/n{}", random.below(60)).bytes()),
+        2 => out.extend(format!("/d/n{}", random.below(60)).bytes()),
+        // a way down
+        3 => {
+            (0..=random.below(8)).for_each(|_| out.extend(b"/d"));
+            out.extend(random.pick::<&[u8]>(&[b"", b"/a"]));
+        }
         _ => out.extend(random.pick(&COMMON)),
     }
 }

@@ -6,6 +6,7 @@ pub mod arena;
 pub mod calls;
 pub mod damage;
 pub mod library;
+pub mod painted;
 pub mod pair;
 pub mod reached;
 pub mod stores;

@@ -31,7 +31,7 @@ pub struct Reached {
 
 impl Reached {
     pub fn note(&mut self, call: &Call, report: u32) {
-        self.counts[row(call)][report as usize] += 1;
+        self.counts[row_of(call)][report as usize] += 1;
     }
 
     /// How many calls were made.
@@ -68,7 +68,8 @@ impl fmt::Display for Reached {
     }
 }
 
-fn row(call: &Call) -> usize {
+/// The place of a call in the order of calls.
+pub fn row_of(call: &Call) -> usize {
     match call {
         Call::Prepare => 0,
         Call::Create(_) => 1,

@@ -46,3 +46,24 @@ pub fn with_directory(records: usize) -> Memory {
     }
     memory
 }
+
+/// The names on the way down to the deepest directory, and of a file in it.
+pub fn way_down() -> Vec<Vec<u8>> {
+    let mut names: Vec<_> = (1..=7).map(|depth| b"/d".repeat(depth)).collect();
+    names.push([&names[6][..], b"/a"].concat());
+    names
+}
+
+/// A store as deep as can be.
+pub fn deep() -> Memory {
+    let mut memory = Memory::prepared(16, 12, 4);
+    let mut tables = memory.lend();
+    let names = way_down();
+    let (file, directories) = names.split_last().expect("not empty");
+    for name in directories {
+        tables.mkdir(name).expect("room");
+    }
+    let channel = tables.create(file).expect("room");
+    tables.write(channel, b"MONFRI").expect("room");
+    memory
+}
