@@ -1,0 +1,40 @@
+-- Each case is told as what it stands for.
+use Prim.Native.Nat.{ℕ}
+use mathlib.Core.Path.{_≡_}
+use Rattle.meaning.specs.Answers.{spaceOf}
+use Rattle.meaning.specs.declared.Report.{Report}
+use Rattle.meaning.specs.declared.Space.{Space}
+use Rattle.meaning.specs.declared.Space.the-variants.{Of, Refused}
+use Rattle.filestore.specs.declared.Told.{Told}
+use Rattle.filestore.specs.Tells.{four, alone, Numbers}
+use Rattle.filestore.specs.TellsLaws.{three-told, refusal-told}
+use borrow.Author.Needs.{needs}
+use Rattle.filestore.proofs.answers.tell_space.Statement.{statement}
+use Rattle.filestore.proofs.answers.tell_space.Tie as tie
+
+module _ (answer : Space) where
+  accepted-told : (blocks files channels : ℕ) → answer ≡ Of blocks files channels → Numbers 3 (spaceOf answer) (record { report = 0; first = blocks; second = files; third = channels })
+  accepted-told blocks files channels e = rw e (three-told blocks files channels)
+
+  refused-told : (why : Report) (r : Told) → answer ≡ Refused why → four r ≡ alone why → Numbers 3 (spaceOf answer) r
+  refused-told why r e a = rw e (refusal-told why r a 3)
+
+enum-known-answer : tie.Need-enum-known-answer
+enum-known-answer c = search needs
+
+enum-known-answer-2 : tie.Need-enum-known-answer-2
+enum-known-answer-2 c = search needs
+
+tell-alone-requires : tie.Need-tell-alone-requires
+tell-alone-requires c κs = search needs
+
+returns : tie.Need-returns
+returns c = search accepted-told
+
+returns-2 : tie.Need-returns-2
+returns-2 c = search refused-told
+
+pub tell-space-spec : {M : Type 1} → statement M
+tell-space-spec =
+    tie.close
+    (tie.spec enum-known-answer enum-known-answer-2 tell-alone-requires returns returns-2)

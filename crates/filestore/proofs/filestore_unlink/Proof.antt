@@ -1,0 +1,30 @@
+-- The call keeps its promise, and its answer is told.
+use Rattle.meaning.specs.Run.{width}
+use Rattle.filestore.specs.TellsLaws.{kept-told}
+use borrow.Author.Needs.{needs}
+use Rattle.filestore.proofs.filestore_unlink.Statement.{statement}
+use Rattle.filestore.proofs.filestore_unlink.Tie as tie
+
+unlink-requires : tie.Need-unlink-requires
+unlink-requires c κs = search needs
+
+tell-report-requires : tie.Need-tell-report-requires
+tell-report-requires c κs = search needs
+
+same-length : tie.Need-same-length
+same-length c = search needs
+
+same-length-2 : tie.Need-same-length-2
+same-length-2 c = search needs
+
+same-length-3 : tie.Need-same-length-3
+same-length-3 c = search needs
+
+returns : tie.Need-returns
+unfolding width
+returns c = search kept-told
+
+pub filestore-unlink-spec : {M : Type 1} → statement M
+filestore-unlink-spec =
+    tie.close
+    (tie.spec unlink-requires tell-report-requires same-length same-length-2 same-length-3 returns)
