@@ -1,0 +1,77 @@
+//! Times every call of the library beside the model, in one run.
+//!
+//! Prints the tables of docs/PERFORMANCE.md:
+//!
+//!     cargo run --offline --release --example bench
+
+#[path = "../../tests/common/library.rs"]
+mod library;
+
+mod clock;
+mod pass;
+mod scenes;
+mod stores;
+
+use clock::{nanoseconds, Times};
+use model::{Call, Memory};
+
+fn main() {
+    calls();
+    soundness();
+    whole_blocks();
+}
+
+/// Every call at three sizes.
+fn calls() {
+    println!("| Call | Tables | Library, ns | Model, ns | Ratio |");
+    println!("|---|---|--:|--:|--:|");
+    for size in scenes::SIZES {
+        for scene in scenes::all(size) {
+            let times = Times::of(&scene.memory, &scene.call, scene.lent);
+            println!("| {} | {size} | {times} |", scene.name);
+        }
+    }
+}
+
+/// The soundness test, which is most of room, beside one pass over the bytes
+/// that it must read.
+fn soundness() {
+    println!("\n| Store | Bytes to read | Library, ns | Model, ns | Ratio | One pass, ns |");
+    println!("|---|--:|--:|--:|--:|--:|");
+    for (store, memory) in [
+        ("1 block, 1 file, 1 channel", Memory::prepared(1, 1, 1)),
+        ("middling, 40 names", stores::middling()),
+        ("largest, 96 names", stores::largest()),
+        ("a directory of 2,048 names", stores::long_directory()),
+    ] {
+        let times = Times::of(&memory, &Call::Room, 0);
+        let bytes = pass::bytes_to_read(&memory);
+        let pass = nanoseconds(|| pass::pass(&memory));
+        println!("| {store} | {bytes} | {times} | {pass:.0} |");
+    }
+}
+
+/// Read and write of whole blocks beside memcpy of as many bytes.
+fn whole_blocks() {
+    println!(
+        "\n| Call | Bytes | Library, ns | Model, ns | Ratio | Library's room, ns | memcpy, ns |"
+    );
+    println!("|---|--:|--:|--:|--:|--:|--:|");
+    let data = vec![1; 32_768];
+    for (name, grows) in [("read", false), ("write over", false), ("write anew", true)] {
+        let memory = stores::one_file(if grows { 0 } else { 32_768 });
+        let room = Times::of(&memory, &Call::Room, 0);
+        for count in [512, 4_096, 32_768] {
+            let times = match name {
+                "read" => Times::of(&memory, &Call::Read(0), count),
+                _ => Times::of(&memory, &Call::Write(0, &data[..count]), 0),
+            };
+            let mut to = vec![0; count];
+            let copy = nanoseconds(|| to.copy_from_slice(&data[..count]));
+            println!(
+                "| {name} | {count} | {times} | {:.0} | {copy:.0} |",
+                room.library
+            );
+        }
+    }
+}
