@@ -11,7 +11,9 @@ use common::calls::Caller;
 use common::damage::damage;
 use common::pair::Pair;
 use common::reached::Reached;
-use common::stores::{any, deep, prepared, small, way_down, with_directory, Sizes};
+use common::stores::{
+    any, deep, prepared, small, way_down, with_directory, with_tight_directory, Sizes,
+};
 use model::random::Random;
 use model::{Call, Memory};
 
@@ -45,10 +47,10 @@ fn row(seed: u64, sizes: fn(&mut Random) -> Sizes, count: usize, reached: &mut R
     pair.model
 }
 
-/// A row of calls on the largest tables, where /d has that many records. It
-/// begins with the four calls that add one.
-fn long_directory(seed: u64, records: usize, count: usize, reached: &mut Reached) {
-    let mut pair = Pair::new(seed, with_directory(records));
+/// A row of calls on a store whose /d is long. It begins with the four calls
+/// that add a record.
+fn long_directory(seed: u64, store: Memory, count: usize, reached: &mut Reached) {
+    let mut pair = Pair::new(seed, store);
     let new = b"/d/new";
     for call in [
         Call::Create(new),
@@ -65,17 +67,14 @@ fn long_directory(seed: u64, records: usize, count: usize, reached: &mut Reached
 /// A row of calls on a store as deep as can be.
 fn deep_tree(seed: u64, count: usize, reached: &mut Reached) {
     let mut pair = Pair::new(seed, deep());
-    let mut caller = Caller::new(seed);
-    for name in way_down() {
-        caller = caller.knows(&name);
-    }
+    let known = way_down().into_iter();
+    let mut caller = known.fold(Caller::new(seed), |caller, name| caller.knows(&name));
     calls(&mut pair, &mut caller, count, reached);
 }
 
 /// Damages copies of a store, and makes two calls on each copy. Answers how
 /// many copies the second call found sound.
-fn damaged(seed: u64, copies: usize, reached: &mut Reached) -> usize {
-    let memory = row(seed, small, 30, reached);
+fn damaged(seed: u64, memory: &Memory, copies: usize, reached: &mut Reached) -> usize {
     let mut caller = Caller::new(!seed);
     let mut sound = 0;
     for _ in 0..copies {
@@ -127,7 +126,7 @@ fn print(reached: &Reached, of: &str) {
 #[test]
 fn rows_of_calls_on_small_stores() {
     let mut reached = Reached::default();
-    for seed in seeds(1, 10_000) {
+    for seed in seeds(1, 30_000) {
         row(seed, small, 100, &mut reached);
     }
     print(&reached, "small stores");
@@ -136,7 +135,7 @@ fn rows_of_calls_on_small_stores() {
 #[test]
 fn rows_of_calls_on_stores_of_any_size() {
     let mut reached = Reached::default();
-    for seed in seeds(2, 400) {
+    for seed in seeds(2, 2_000) {
         row(seed, any, 150, &mut reached);
     }
     print(&reached, "stores of any size");
@@ -146,8 +145,9 @@ fn rows_of_calls_on_stores_of_any_size() {
 fn rows_of_calls_on_long_directories() {
     let mut reached = Reached::default();
     for seed in seeds(3, 2) {
-        long_directory(seed, 2048, 60, &mut reached);
-        long_directory(seed, 2047, 60, &mut reached);
+        long_directory(seed, with_directory(2048), 60, &mut reached);
+        long_directory(seed, with_directory(2047), 60, &mut reached);
+        long_directory(seed, with_tight_directory(64), 60, &mut reached);
     }
     print(&reached, "stores with a long directory");
 }
@@ -155,7 +155,7 @@ fn rows_of_calls_on_long_directories() {
 #[test]
 fn rows_of_calls_on_deep_trees() {
     let mut reached = Reached::default();
-    for seed in seeds(7, 500) {
+    for seed in seeds(7, 2_000) {
         deep_tree(seed, 60, &mut reached);
     }
     print(&reached, "deep trees");
@@ -165,11 +165,27 @@ fn rows_of_calls_on_deep_trees() {
 fn damaged_tables() {
     let mut reached = Reached::default();
     let (mut sound, mut tables) = (0, 0);
-    for seed in seeds(4, 2_500) {
-        sound += damaged(seed, 40, &mut reached);
+    for seed in seeds(4, 7_500) {
+        let memory = row(seed, small, 30, &mut reached);
+        sound += damaged(seed, &memory, 40, &mut reached);
         tables += 40;
     }
     print(&reached, "small stores and their damaged copies");
+    println!("{tables} damaged copies, {sound} of them sound all the same");
+    assert!(sound > tables / 10 && sound < tables / 2);
+}
+
+#[test]
+fn damaged_directories() {
+    let mut reached = Reached::default();
+    let (mut sound, mut tables) = (0, 0);
+    for seed in seeds(8, 400) {
+        let records = 1 + Random::new(seed).below(130);
+        let memory = with_tight_directory(records);
+        sound += damaged(seed, &memory, 40, &mut reached);
+        tables += 40;
+    }
+    print(&reached, "damaged copies of directories of many blocks");
     println!("{tables} damaged copies, {sound} of them sound all the same");
     assert!(sound > tables / 10 && sound < tables / 2);
 }
@@ -192,9 +208,11 @@ fn every_report_of_every_call() {
     let mut reached = Reached::default();
     for seed in seeds(6, 1) {
         (seed..seed + 400).for_each(|seed| _ = row(seed, small, 100, &mut reached));
-        (seed..seed + 50).for_each(|seed| _ = damaged(seed, 20, &mut reached));
+        let directory = with_tight_directory(100);
+        (seed..seed + 50).for_each(|seed| _ = damaged(seed, &directory, 20, &mut reached));
         lengths(&mut Caller::new(seed), seed, (0, 3, 2), &mut reached);
-        long_directory(seed, 2048, 20, &mut reached);
+        long_directory(seed, with_tight_directory(64), 60, &mut reached);
+        long_directory(seed, with_directory(2048), 0, &mut reached);
     }
     print(&reached, "stores of every kind; calls down, reports across");
     println!("{reached}");

@@ -97,25 +97,28 @@ fn copy(random: &mut Random, memory: &mut Memory) {
     }
 }
 
-/// A record of a directory: a byte of it, a copy of another, its name with a
-/// "/" or a zero, another file number, or blank.
+/// A record of a directory: a byte of it, a copy of another's bytes or name,
+/// its name with a "/" or a zero, another file number, or blank.
 fn entry(random: &mut Random, memory: &mut Memory) {
-    let block = directory_block(random, memory);
-    let held = 512 * block..(512 * (block + 1)).min(memory.blocks.len());
-    let block = &mut memory.blocks[held];
-    // the first records of a block are the likeliest in use
-    let most = random.pick(&[3, 8, 32]);
-    let Some((one, two)) = two_records(random, &block[..block.len().min(16 * most)], 16) else {
+    let (one, two) = (entry_at(random, memory), entry_at(random, memory));
+    let blocks = &mut memory.blocks;
+    if blocks.len() < one.max(two) + 16 {
         return;
-    };
-    match random.below(6) {
-        0 => byte(random, &mut block[one..one + 16]),
-        1 => block.copy_within(one..one + 16, two),
-        2 => block.copy_within(one + 2..one + 16, two + 2),
-        3 => block[one + 2 + random.below(14)] = random.pick(b"/\0a"),
-        4 => block[one] = random.below(8) as u8,
-        _ => block[one..one + 16].fill(0),
     }
+    match random.below(6) {
+        0 => byte(random, &mut blocks[one..one + 16]),
+        1 => blocks.copy_within(one..one + 16, two),
+        2 => blocks.copy_within(one + 2..one + 16, two + 2),
+        3 => blocks[one + 2 + random.below(14)] = random.pick(b"/\0a"),
+        4 => blocks[one] = random.below(8) as u8,
+        _ => blocks[one..one + 16].fill(0),
+    }
+}
+
+/// Where a record of a directory begins; the first of a block are the likeliest.
+fn entry_at(random: &mut Random, memory: &Memory) -> usize {
+    let most = random.pick(&[3, 8, 32]);
+    512 * directory_block(random, memory) + 16 * random.below(most)
 }
 
 /// A block that a directory has, or any.

@@ -35,14 +35,21 @@ pub fn prepared(random: &mut Random, (blocks, files, channels): Sizes) -> Memory
 
 /// The largest tables: /d has so many records, all of them names of /a.
 pub fn with_directory(records: usize) -> Memory {
-    let mut memory = Memory::prepared(128, 64, 16);
+    filled(Memory::prepared(128, 64, 16), records)
+}
+
+/// The same in tables that leave no free block.
+pub fn with_tight_directory(records: usize) -> Memory {
+    filled(Memory::prepared(1 + records.div_ceil(32), 5, 3), records)
+}
+
+fn filled(mut memory: Memory, records: usize) -> Memory {
     let mut tables = memory.lend();
     tables.mkdir(b"/d").expect("room");
     tables.create(b"/a").expect("room");
     for n in 0..records {
-        tables
-            .link(b"/a", format!("/d/n{n}").as_bytes())
-            .expect("room");
+        let name = format!("/d/n{n}");
+        tables.link(b"/a", name.as_bytes()).expect("room");
     }
     memory
 }
