@@ -12,6 +12,8 @@ mod pass;
 mod scenes;
 mod stores;
 
+use std::hint::black_box;
+
 use clock::{nanoseconds, Times};
 use model::{Call, Memory};
 
@@ -67,7 +69,8 @@ fn whole_blocks() {
                 _ => Times::of(&memory, &Call::Write(0, &data[..count]), 0),
             };
             let mut to = vec![0; count];
-            let copy = nanoseconds(|| to.copy_from_slice(&data[..count]));
+            let copy =
+                nanoseconds(|| black_box(&mut to).copy_from_slice(black_box(&data[..count])));
             println!(
                 "| {name} | {count} | {times} | {:.0} | {copy:.0} |",
                 room.library
