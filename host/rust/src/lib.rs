@@ -4,7 +4,8 @@
 //! library on them; [`Tables`] owns such tables. The store keeps nothing
 //! outside its tables, so they may be saved, copied and lent again. Tables of
 //! any bytes may be lent: what is not a sound store is refused as
-//! [`Report::NotAStore`], and a refused call changes nothing.
+//! [`Report::NotAStore`], and a refused call changes nothing. Calls allocate
+//! nothing; only [`Tables::new`] does.
 //!
 //! ```
 //! use filestore::{seek, Report, Tables};
@@ -28,7 +29,10 @@
 //! # Ok::<(), Report>(())
 //! ```
 
+#![no_std]
 #![warn(missing_docs)]
+
+extern crate alloc;
 
 mod answers;
 mod listing;

@@ -1,7 +1,7 @@
 //! Why a call was refused.
 
-use std::error::Error;
-use std::fmt;
+use core::error::Error;
+use core::fmt;
 
 /// A report other than Ok; its number is the report's.
 #[derive(Clone, Copy, Debug, PartialEq, Eq, Hash)]

@@ -9,6 +9,21 @@ use crate::sys;
 /// Every call but [`prepare`](Store::prepare) first tests that the tables are
 /// a sound store. A refused call changes no byte, of a buffer either. Names are
 /// "/" or up to 8 syllables of 1 to 14 bytes, each after one "/".
+///
+/// ```
+/// let mut store = filestore::Store {
+///     blocks: &mut [0; 512 * 8],
+///     block_records: &mut [0; 4 * 8],
+///     file_records: &mut [0; 8 * 4],
+///     channel_records: &mut [0; 8 * 2],
+/// };
+/// store.prepare()?;
+/// store.mkdir("/logs")?;
+/// let log = store.create("/logs/today")?;
+/// assert_eq!(store.write(log, "started\n")?, 8);
+/// store.close(log)?;
+/// # Ok::<(), filestore::Report>(())
+/// ```
 #[derive(Debug)]
 pub struct Store<'a> {
     /// 512 bytes a block, 1 to 128 blocks.

@@ -1,5 +1,8 @@
 //! Tables of a program's own.
 
+use alloc::boxed::Box;
+use alloc::vec;
+
 use crate::store::Store;
 
 /// Four tables on the heap. Their bytes are the whole store: saving them saves

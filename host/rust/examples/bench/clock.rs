@@ -9,7 +9,7 @@ use model::{Call, Memory};
 use crate::library;
 
 /// How long the library and the model are timed together.
-const SPAN: Duration = Duration::from_millis(80);
+const SPAN: Duration = Duration::from_millis(150);
 /// The least number of rounds.
 const ROUNDS: usize = 15;
 /// Copies of a store that are timed together take about so many bytes.

@@ -23,22 +23,26 @@ fn main() {
     whole_blocks();
 }
 
-/// Every call at three sizes.
+/// Every call at three sizes; times of the library and of the model.
 fn calls() {
-    println!("| Call | Tables | Library, ns | Model, ns | Ratio |");
-    println!("|---|---|--:|--:|--:|");
-    for size in scenes::SIZES {
-        for scene in scenes::all(size) {
-            let times = Times::of(&scene.memory, &scene.call, scene.lent);
-            println!("| {} | {size} | {times} |", scene.name);
+    println!(
+        "| Call | smallest | model | ratio | middling | model | ratio | largest | model | ratio |"
+    );
+    println!("|---|--:|--:|--:|--:|--:|--:|--:|--:|--:|");
+    let [smallest, middling, largest] = [scenes::smallest(), scenes::middling(), scenes::largest()];
+    for ((small, middle), large) in smallest.iter().zip(&middling).zip(&largest) {
+        print!("| {} |", small.name);
+        for scene in [small, middle, large] {
+            print!(" {} |", Times::of(&scene.memory, &scene.call, scene.lent));
         }
+        println!();
     }
 }
 
 /// The soundness test, which is most of room, beside one pass over the bytes
 /// that it must read.
 fn soundness() {
-    println!("\n| Store | Bytes to read | Library, ns | Model, ns | Ratio | One pass, ns |");
+    println!("\n| Store | Bytes to read | room | model | ratio | one pass |");
     println!("|---|--:|--:|--:|--:|--:|");
     for (store, memory) in [
         ("1 block, 1 file, 1 channel", Memory::prepared(1, 1, 1)),
@@ -55,9 +59,7 @@ fn soundness() {
 
 /// Read and write of whole blocks beside memcpy of as many bytes.
 fn whole_blocks() {
-    println!(
-        "\n| Call | Bytes | Library, ns | Model, ns | Ratio | Library's room, ns | memcpy, ns |"
-    );
+    println!("\n| Call | bytes | library | model | ratio | room alone | memcpy |");
     println!("|---|--:|--:|--:|--:|--:|--:|");
     let data = vec![1; 32_768];
     for (name, grows) in [("read", false), ("write over", false), ("write anew", true)] {

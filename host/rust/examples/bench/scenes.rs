@@ -4,8 +4,6 @@ use model::{Call, Memory};
 
 use crate::stores;
 
-pub const SIZES: [&str; 3] = ["smallest", "middling", "largest"];
-
 /// A call and what it is timed on.
 pub struct Scene {
     pub name: &'static str,
@@ -14,13 +12,14 @@ pub struct Scene {
     pub lent: usize,
 }
 
-/// All calls at a size.
-pub fn all(size: &str) -> Vec<Scene> {
-    match size {
-        "smallest" => smallest(),
-        "middling" => same(stores::middling(), MIDDLING),
-        _ => same(stores::largest(), LARGEST),
-    }
+/// All calls on the middling store.
+pub fn middling() -> Vec<Scene> {
+    same(stores::middling(), MIDDLING)
+}
+
+/// All calls on the largest store, by names of seven and eight syllables.
+pub fn largest() -> Vec<Scene> {
+    same(stores::largest(), LARGEST)
 }
 
 fn scene(name: &'static str, memory: Memory, call: Call<'static>, lent: usize) -> Scene {
@@ -33,7 +32,7 @@ fn scene(name: &'static str, memory: Memory, call: Call<'static>, lent: usize) -
 }
 
 /// 2 blocks, 2 files, 1 channel: the least that every call can be accepted in.
-fn smallest() -> Vec<Scene> {
+pub fn smallest() -> Vec<Scene> {
     let empty = || Memory::prepared(2, 2, 1);
     let open = || {
         let mut memory = empty();
