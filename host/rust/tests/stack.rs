@@ -13,23 +13,23 @@ use common::reached::row_of;
 use common::stores::{any, deep, prepared, small, way_down, with_directory};
 use model::{Call, Memory};
 
-/// The most bytes that each call uses.
+/// The most bytes that each call uses; docs/PERFORMANCE.md has them too.
 const STATED: [(&str, usize); 15] = [
-    ("prepare", 65_536),
-    ("create", 65_536),
-    ("open", 65_536),
-    ("close", 65_536),
-    ("read", 65_536),
-    ("write", 65_536),
-    ("seek", 65_536),
-    ("fstat", 65_536),
-    ("link", 65_536),
-    ("unlink", 65_536),
-    ("move", 65_536),
-    ("ls", 65_536),
-    ("mkdir", 65_536),
-    ("rmdir", 65_536),
-    ("room", 65_536),
+    ("prepare", 40),
+    ("create", 1_884),
+    ("open", 1_820),
+    ("close", 1_832),
+    ("read", 1_576),
+    ("write", 1_576),
+    ("seek", 1_528),
+    ("fstat", 1_528),
+    ("link", 2_188),
+    ("unlink", 2_124),
+    ("move", 2_204),
+    ("ls", 1_728),
+    ("mkdir", 1_688),
+    ("rmdir", 1_744),
+    ("room", 1_560),
 ];
 
 /// The most that each call was seen to use.
