@@ -6,6 +6,7 @@ pub mod arena;
 pub mod calls;
 pub mod damage;
 pub mod library;
+#[cfg(target_arch = "x86_64")]
 pub mod painted;
 pub mod pair;
 pub mod reached;
