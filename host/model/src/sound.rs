@@ -3,8 +3,7 @@
 //! Each function is one rule and answers `None` where it is broken.
 
 use crate::record::{
-    blocks_for, Channel, Entry, File, FileNo, Kind, StoredName, MAX_DEPTH, MAX_LENGTH, MAX_PLACES,
-    MAX_POSITION,
+    blocks_for, Channel, Entry, File, FileNo, Kind, MAX_DEPTH, MAX_LENGTH, MAX_PLACES, MAX_POSITION,
 };
 use crate::refusal::Refusal;
 use crate::store::Store;
@@ -12,8 +11,6 @@ use crate::tables::{Counts, Tables, MAX_CHANNELS, MAX_FILES};
 
 /// No block is known yet for a place.
 const NO_BLOCK: u8 = u8::MAX;
-/// The most records in a directory.
-const MAX_ENTRIES: usize = MAX_LENGTH as usize / Entry::SIZE;
 
 impl Store {
     /// The store in the tables; NotAStore where they are not sound.
@@ -209,15 +206,10 @@ fn few_names_differ(records: &[[u8; Entry::SIZE]]) -> bool {
     })
 }
 
-/// Sorts the names; kept out of line, since its scratch space is large.
-#[inline(never)]
+/// Sorts the names.
 fn many_names_differ(entries: impl Iterator<Item = Entry>) -> bool {
-    let mut names = [StoredName::of(b""); MAX_ENTRIES];
-    let mut count = 0;
-    for entry in entries.filter(|&entry| entry != Entry::BLANK) {
-        names[count] = entry.name();
-        count += 1;
-    }
-    names[..count].sort_unstable();
-    names[..count].windows(2).all(|pair| pair[0] != pair[1])
+    let named = entries.filter(|&entry| entry != Entry::BLANK);
+    let mut names: Vec<_> = named.map(Entry::name).collect();
+    names.sort_unstable();
+    names.windows(2).all(|pair| pair[0] != pair[1])
 }
