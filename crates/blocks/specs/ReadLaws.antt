@@ -9,8 +9,8 @@ use lib.Seq.{sets, sets-eq, ext-getD, getD-append-add, getD-take, getD-drop}
 use Rattle.records.specs.Rows.{listOf, listFrom}
 use Rattle.records.specs.Numbers.{one}
 use Rattle.records.specs.Tests.{lt-or-ge}
-use Rattle.records.specs.RowLaws.{length-listOf, getD-listOf}
 use Rattle.records.specs.RecordLaws.{sets-append}
+use Rattle.records.specs.ListLaws.{length-listOf, getD-listOf}
 use Rattle.meaning.specs.File.{readFILE, over}
 use Rattle.meaning.specs.Tables.{Tables, storeOf, fileOf, byteOf, blockOf, lengthAt, fileLength}
 use Rattle.blocks.specs.Runs.{byteIn, runOf, inBlock, Moving}

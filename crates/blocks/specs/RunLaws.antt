@@ -12,7 +12,7 @@ use borrow.Author.Tests.{eq-eqb, eqb-true, leb-true, ltb-true, le-leb}
 use Rattle.records.specs.Rows.{pick}
 use Rattle.records.specs.Numbers.{one}
 use Rattle.records.specs.Tests.{tested, and-left, and-right, between-in, lt-or-ge}
-use Rattle.records.specs.RowLaws.{length-listOf, getD-listOf, listOf-cong}
+use Rattle.records.specs.ListLaws.{length-listOf, getD-listOf, listOf-cong}
 use Rattle.meaning.specs.Tables.{owner, laid}
 use Rattle.blocks.specs.Runs.{byteNo, inRun, laidRun}
 

@@ -5,7 +5,7 @@ use mathlib.Core.List.{List}
 use native.Mathlib.Omega.{arith}
 use lib.ListN.{length}
 use Rattle.records.specs.Numbers.{one, zeros}
-use Rattle.records.specs.RowLaws.{getD-listOf, length-listOf}
+use Rattle.records.specs.ListLaws.{getD-listOf, length-listOf}
 use Rattle.meaning.specs.Name.{recordAt, entryAt, isBlank, entryIn}
 use Rattle.meaning.specs.Tables.{Tables, blockOf, byteOf, fileOf, storeOf, lengthAt}
 use Rattle.names.specs.RecordNames.{recordFrom, record-at, record-same, blank-same}

@@ -10,7 +10,7 @@ use lib.Dec.{eqb}
 use borrow.Author.Tests.{ne-eqb, lt-leb}
 use Rattle.records.specs.Numbers.{one}
 use Rattle.records.specs.Tests.{and-false, same-or-not}
-use Rattle.records.specs.RowLaws.{is-listOf}
+use Rattle.records.specs.ListLaws.{is-listOf}
 use Rattle.meaning.specs.File.{needed}
 use Rattle.meaning.specs.Store.{freeBlocks}
 use Rattle.meaning.specs.Tables.{Tables, storeOf, blockCount, fileCount, fileLength, owner, place, blockOf, released, takenFrom, resized}

@@ -12,7 +12,7 @@ use Rattle.layout.specs.Room.{same-files}
 use Rattle.files.specs.Files.{Clearable, cleared}
 use Rattle.recording.specs.Recording.{Rewritable}
 use Rattle.recording.specs.AfterRecord.{Written, clearable-written}
-use Rattle.keeping.specs.Sure.{Sized, Sure}
+use Rattle.keeping.specs.Sure.{Sure}
 
 -- record i of directory d can be written, and file f is one of the tables'
 pub record Able (t : Tables) (d i : ℕ) (r : List ℕ) (f : ℕ) : Type 0 where
@@ -20,10 +20,6 @@ pub record Able (t : Tables) (d i : ℕ) (r : List ℕ) (f : ℕ) : Type 0 where
   pub rewritable : Rewritable (t .blocks) (t .blockRecords) (t .fileRecords) d i r
   pub from-one : 0 < f
   pub to-last : f ≤ fileCount (t .fileRecords)
-
-pub sized : (t : Tables) → sound t ≡ true → Sized (storeOf t)
-unfolding storeOf
-sized t ok = let l = sound-layout t ok .lengths in record { some-files = l .some-files; few-files = l .few-files }
 
 pub able : (t : Tables) → sound t ≡ true → (d i : ℕ) (r : List ℕ) (f : ℕ) (y : File) → Sure (storeOf t) (file d (rewritten (storeOf t) d i r) ∷ file f y ∷ [])
     → isDirectory (storeOf t) d ≡ true → i < 65536 → Able t d i r f

@@ -30,7 +30,9 @@ use Rattle.recording.specs.Fit.{FitsIn, ifFitsIn}
 use Rattle.recording.specs.declared.Fit.{Fit}
 use Rattle.recording.specs.declared.Fit.the-variants as F
 use Rattle.folders.specs.Make.{Made}
-use Rattle.folders.specs.MakeLaws.{file-free, no-file-free, some-file-free, fit-told, its-depth, fits-is, same-naming, can}
+use Rattle.placing.specs.Free.{file-free, no-file-free, some-file-free}
+use Rattle.placing.specs.NewName.{fits-is, same-naming}
+use Rattle.folders.specs.MakeLaws.{fit-told, its-depth, can}
 use Rattle.folders.specs.declared.Making.the-variants.{Of, No}
 
 abbrev rest : Tables → List (List ℕ) → Result

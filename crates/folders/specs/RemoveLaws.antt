@@ -23,7 +23,8 @@ use Rattle.keeping.specs.Named.{other-standing}
 use Rattle.keeping.specs.OnNames.{good-rmdir}
 use Rattle.naming.specs.At.{At, not-missing}
 use Rattle.naming.specs.declared.Located.{Located}
-use Rattle.folders.specs.Acts.{Able, sized, able}
+use Rattle.placing.specs.Free.{sized}
+use Rattle.folders.specs.Acts.{Able, able}
 use Rattle.folders.specs.Remove.{planned}
 use Rattle.folders.specs.declared.Removing.the-variants.{Of}
 

@@ -7,10 +7,9 @@ use mathlib.Core.Bool.{Bool, true, false, true≢false}
 use native.Mathlib.Omega.{arith}
 use lib.ListN.{length}
 use Rattle.records.specs.Rows.{pick}
-use Rattle.records.specs.Tests.{tested, same-or-not}
+use Rattle.records.specs.Tests.{tested, same-or-not, not-false-true}
 use Rattle.meaning.specs.File.{longest}
 use Rattle.meaning.specs.Store.{Store, File, file, after, noFile, ordinary, root, inUse, isDirectory, names, held, isOrphan, letGo}
-use Rattle.names.specs.ByteLaws.{not-false-true}
 use Rattle.soundness.specs.Use.{used, directory-kind, not-directory}
 use Rattle.soundness.specs.Well.{FileForm, as-free, as-ordinary, Well}
 use Rattle.soundness.specs.WellFacts.{root-directory, form-ordinary}

@@ -10,7 +10,7 @@ use lib.ListN.{length}
 use lib.Dec.{ltb, eqb}
 use borrow.Author.Tests.{ltb-true, ltb-false, eqb-true, not-false}
 use Rattle.records.specs.RowLaws.{lowest-hit}
-use Rattle.records.specs.Tests.{and-left, or-right, same-or-not}
+use Rattle.records.specs.Tests.{and-left, or-right, same-or-not, not-false-true}
 use Rattle.meaning.specs.File.{readFILE}
 use Rattle.meaning.specs.FileLaws.{length-read}
 use Rattle.meaning.specs.Name.{syllables}
@@ -19,7 +19,6 @@ use Rattle.meaning.specs.Result.{missing, allOpen}
 use Rattle.meaning.specs.ChannelCalls.{read, seek, seekTo, fstat, room, lastPosition}
 use Rattle.meaning.specs.NameCalls.{open′, ls}
 use Rattle.meaning.specs.declared.Report.the-variants.{NoSuchName, NoFreeCids, NotDirectory, BadSeek, OutShort}
-use Rattle.names.specs.ByteLaws.{not-false-true}
 use Rattle.layout.specs.Fits.{ChannelFits}
 use Rattle.soundness.specs.Use.{used, of-used, directory-used}
 use Rattle.soundness.specs.Well.{ChannelForm, Well}

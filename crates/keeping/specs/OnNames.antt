@@ -11,14 +11,13 @@ use lib.Dec.{eqb}
 use borrow.Author.Tests.{eq-eqb, not-false}
 use Rattle.records.specs.Rows.{tally, every}
 use Rattle.records.specs.RowLaws.{every-all}
-use Rattle.records.specs.Tests.{or-left, or-right}
+use Rattle.records.specs.Tests.{or-left, or-right, not-false-true}
 use Rattle.meaning.specs.File.{needed, longest}
 use Rattle.meaning.specs.Name.{syllables, blankRecord, recordCount, isBlank, isEmpty}
 use Rattle.meaning.specs.Store.{Store, Change, file, afterAll, noFile, root, isDirectory, freeBlocks, named, held, letGo, last}
 use Rattle.meaning.specs.Result.{Result, refused, done, missing, nowhere}
 use Rattle.meaning.specs.NameCalls.{parent, recordFor, rewritten, naming, unnaming, ifNamingFits, link, unlink, rmdir, move, andThen, withChanges}
 use Rattle.meaning.specs.declared.Report.the-variants.{NoSuchName, IsDirectory, NotDirectory, NotEmpty, InUse}
-use Rattle.names.specs.ByteLaws.{not-false-true}
 use Rattle.layout.specs.Room.{same-files}
 use Rattle.soundness.specs.Use.{used, directory-used}
 use Rattle.soundness.specs.Well.{as-free, Well}

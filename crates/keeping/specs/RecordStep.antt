@@ -12,7 +12,7 @@ use Rattle.records.specs.Tests.{same-or-not}
 use Rattle.meaning.specs.File.{longest}
 use Rattle.meaning.specs.Name.{Entry, isSyllable, same, entryIn, isWritten, blankRecord, recordCount, recordAt, isBlank, entryAt, withEntry}
 use Rattle.meaning.specs.Store.{Store, File, after, root, inUse, isDirectory}
-use Rattle.names.specs.ByteLaws.{not-same}
+use Rattle.names.specs.SameLaws.{not-same}
 use Rattle.directories.specs.EntryLaws.{length-with, count-with, record-same, record-other, entry-same, entry-other, blank-same, blank-other}
 use Rattle.soundness.specs.Use.{directory-used, directory-kind}
 use Rattle.soundness.specs.Well.{FileForm, DirectoryFile, as-directory, RecordForm, as-blank, as-naming}

@@ -7,12 +7,12 @@ use native.Mathlib.Omega.{arith}
 use lib.ListN.{length}
 use lib.Dec.{eqb}
 use borrow.Author.Tests.{eqb-false}
+use Rattle.records.specs.Tests.{not-false-true}
 use Rattle.meaning.specs.File.{writeFILE, needed, longest}
 use Rattle.meaning.specs.FileLaws.{length-write}
 use Rattle.meaning.specs.Store.{Store, file, channel, after, noChannel, channelTo, ordinary, isDirectory, isOpen, freeBlocks, letGo}
 use Rattle.meaning.specs.ChannelCalls.{close, write}
 use Rattle.meaning.specs.declared.Report.the-variants.{IsDirectory}
-use Rattle.names.specs.ByteLaws.{not-false-true}
 use Rattle.soundness.specs.Use.{used, directory-kind}
 use Rattle.soundness.specs.Well.{ChannelForm, Well}
 use Rattle.soundness.specs.WellFacts.{open-channel, held-used}

@@ -10,8 +10,8 @@ use lib.Dec.{ltb, eqb}
 use borrow.Author.Tests.{eq-eqb, ne-eqb, lt-ltb, le-ltb}
 use Rattle.records.specs.Rows.{pick}
 use Rattle.records.specs.Tests.{and-false}
-use Rattle.records.specs.RowLaws.{length-listOf, getD-listOf, is-listOf}
 use Rattle.records.specs.Numbers.{one}
+use Rattle.records.specs.ListLaws.{length-listOf, getD-listOf, is-listOf}
 use Rattle.meaning.specs.Tables.{owner, place, laid}
 
 module _ (blocks R : List ℕ) (f : ℕ) (bytes : List ℕ) where

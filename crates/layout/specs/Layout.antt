@@ -10,8 +10,9 @@ use lib.Dec.{leb, ltb, eqb}
 use borrow.Author.Tests.{eq-eqb, ne-eqb, eqb-true, leb-true, ltb-true, le-leb, lt-ltb}
 use Rattle.records.specs.Rows.{howMany, every}
 use Rattle.records.specs.Tests.{both, and-both, either, or-left, or-right, lt-or-ge, allOf-true, true-allOf}
-use Rattle.records.specs.RowLaws.{every-all, all-every, length-listOf}
+use Rattle.records.specs.RowLaws.{every-all, all-every}
 use Rattle.records.specs.Numbers.{one, two, four, zeros}
+use Rattle.records.specs.ListLaws.{length-listOf}
 use Rattle.meaning.specs.File.{needed}
 use Rattle.meaning.specs.Store.{Store, inUse}
 use Rattle.meaning.specs.Tables.{Tables, storeOf, fileOf, byteOf, blockCount, fileCount, channelCount, owner, place, holds, isFree, lengthAt, fileLength}

@@ -9,9 +9,9 @@ use lib.Dec.{eqb}
 use borrow.Author.Tests.{eq-eqb, ne-eqb}
 use Rattle.records.specs.Rows.{pick, howMany, listOf}
 use Rattle.records.specs.Tests.{same-or-not}
-use Rattle.records.specs.RowLaws.{is-listOf, listOf-cong}
 use Rattle.records.specs.Numbers.{one, withRecord}
 use Rattle.records.specs.RecordLaws.{length-withRecord}
+use Rattle.records.specs.ListLaws.{is-listOf, listOf-cong}
 use Rattle.meaning.specs.File.{needed}
 use Rattle.meaning.specs.Store.{File, file, after, freeBlocks}
 use Rattle.meaning.specs.Tables.{Tables, blockCount, fileCount, holds, blockOf, lengthAt, fileLength, fileRecord, byteOf, resized, put, fileOf, channelOf, storeOf}

@@ -10,8 +10,8 @@ use lib.Dec.{leb, eqb}
 use borrow.Author.Tests.{eq-eqb, eqb-true, leb-true, leb-false}
 use Rattle.records.specs.Rows.{pick}
 use Rattle.records.specs.Tests.{tested, and-left, and-right}
-use Rattle.records.specs.RowLaws.{length-listOf, getD-listOf}
 use Rattle.records.specs.Numbers.{one, two}
+use Rattle.records.specs.ListLaws.{length-listOf, getD-listOf}
 use Rattle.meaning.specs.Tables.{owner, place, blockCount, holds, isFree, released}
 use Rattle.layout.specs.Blocks.{its-place, other-owner, other-place, Kept, kept-holds}
 

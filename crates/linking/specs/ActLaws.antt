@@ -1,5 +1,5 @@
 -- An accepted link: what its act asks holds, and the changes of the plan are those of link.
-use Prim.Native.Nat.{ℕ, _+_, _-_, _*_, _≤_, _<_}
+use Prim.Native.Nat.{ℕ, _-_, _<_}
 use mathlib.Core.Path.{_≡_, refl, sym, ap, subst, _∙_}
 use mathlib.Core.Logic.{_≢_, ⊎-elim}
 use mathlib.Core.List.{List, [], _∷_}
@@ -9,18 +9,16 @@ use native.Mathlib.Omega.{arith}
 use lib.ListN.{length}
 use lib.Dec.{eqb}
 use borrow.Author.Tests.{eq-eqb, ne-eqb}
-use Rattle.records.specs.Rows.{pick}
-use Rattle.records.specs.Tests.{same-or-not, and-false, and-left, and-right}
-use Rattle.meaning.specs.File.{longest}
-use Rattle.meaning.specs.Name.{syllables, entry, written, isSyllable, recordCount}
-use Rattle.meaning.specs.Store.{Store, File, Change, file, after, inUse, isDirectory, named, names, held, isOrphan, letGo, last}
+use Rattle.records.specs.Tests.{same-or-not, and-false, and-left}
+use Rattle.meaning.specs.Name.{syllables, entry, written}
+use Rattle.meaning.specs.Store.{Store, File, file, inUse, isDirectory, named, names, held, isOrphan, letGo, last}
 use Rattle.meaning.specs.Tables.{Tables, tables, storeOf, fileCount}
 use Rattle.meaning.specs.Sound.{sound}
-use Rattle.meaning.specs.Result.{refused, done, unless, missing, nowhere, ifFits}
-use Rattle.meaning.specs.NameCalls.{parent, recordFor, rewritten, naming, ifNamingFits}
+use Rattle.meaning.specs.Result.{done, unless}
+use Rattle.meaning.specs.NameCalls.{parent, rewritten, naming}
 use Rattle.meaning.specs.Run.{Call, resultOf}
 use Rattle.names.specs.Syllables.{part, lastStart}
-use Rattle.layout.specs.Layout.{Layout, sound-layout}
+use Rattle.layout.specs.Layout.{sound-layout}
 use Rattle.layout.specs.Fits.{FileFits}
 use Rattle.soundness.specs.Use.{used}
 use Rattle.soundness.specs.Well.{Well}
@@ -32,12 +30,13 @@ use Rattle.trees.specs.Orphans.{orphan-replaced, orphan-again, orphan-none}
 use Rattle.keeping.specs.Sure.{Sure, Sized}
 use Rattle.keeping.specs.OnChannels.{named-used}
 use Rattle.keeping.specs.OnNames.{link-sure}
-use Rattle.keeping.specs.Named.{Nameable, plain-other, plain-place, other-standing, named-fits}
+use Rattle.keeping.specs.Named.{plain-other, plain-place, other-standing, named-fits}
 use Rattle.naming.specs.LocateLaws.{one-name, last-part, last-inside}
 use Rattle.naming.specs.At.{not-missing}
-use Rattle.recording.specs.Recording.{recordOf, Rewritable}
+use Rattle.recording.specs.Recording.{recordOf}
 use Rattle.linking.specs.Link.{lone, Accepted}
-use Rattle.linking.specs.LinkRest.{sized, link-on}
+use Rattle.placing.specs.Free.{sized}
+use Rattle.linking.specs.LinkRest.{link-on}
 use Rattle.linking.specs.Act.{goes, freed, linkChanges, Linkable}
 use Rattle.linking.specs.declared.Plan.{Plan}
 

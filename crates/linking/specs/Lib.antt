@@ -1,5 +1,4 @@
 pub mod Names
-pub mod Fit
 pub mod Link
 pub mod LinkRest
 pub mod LinkLaws

@@ -1,16 +1,13 @@
 -- Link: what its decision stands for.
 use Prim.Native.Nat.{ℕ, _-_, _≤_}
 use mathlib.Core.Path.{_≡_, subst}
-use mathlib.Core.List.{List, [], _∷_}
-use mathlib.Core.Bool.{Bool, true, false, not, _&&_}
-use mathlib.Core.Option.{some}
+use mathlib.Core.List.{List}
+use mathlib.Core.Bool.{Bool, false, not, _&&_}
 use lib.ListN.{length}
 use lib.Dec.{eqb}
 use Rattle.meaning.specs.File.{needed, longest}
-use Rattle.meaning.specs.Name.{syllables}
 use Rattle.meaning.specs.Store.{Store, isDirectory, freeBlocks, named, names, held}
 use Rattle.meaning.specs.Tables.{Tables, storeOf}
-use Rattle.meaning.specs.Sound.{sound}
 use Rattle.meaning.specs.Result.{refused, missing, nowhere}
 use Rattle.meaning.specs.NameCalls.{parent, recordFor, naming}
 use Rattle.meaning.specs.Run.{Call, resultOf}

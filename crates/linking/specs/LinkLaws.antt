@@ -8,23 +8,17 @@ use native.Mathlib.Omega.{arith}
 use lib.ListN.{length}
 use lib.Dec.{eqb}
 use Rattle.records.specs.Tests.{same-or-not}
-use Rattle.meaning.specs.Name.{entry, written, recordCount}
-use Rattle.meaning.specs.Store.{Store, file, isDirectory, freeBlocks, named, last}
+use Rattle.meaning.specs.Store.{Store, file, isDirectory, named}
 use Rattle.meaning.specs.Tables.{Tables, tables, storeOf, fileCount, fileLength}
 use Rattle.meaning.specs.Sound.{sound}
-use Rattle.meaning.specs.Result.{Result, unless, missing, nowhere, ifFits}
-use Rattle.meaning.specs.NameCalls.{parent, recordFor, rewritten, naming, ifNamingFits}
+use Rattle.meaning.specs.Result.{Result, unless, missing, nowhere}
+use Rattle.meaning.specs.NameCalls.{parent, recordFor, naming, ifNamingFits}
 use Rattle.meaning.specs.Run.{Call, resultOf}
 use Rattle.meaning.specs.declared.Report.{Report}
 use Rattle.meaning.specs.declared.Report.the-variants.{NoSuchName, IsDirectory}
-use Rattle.names.specs.RecordLaws.{length-written}
 use Rattle.tables.specs.Searches.{freeBlockCount}
-use Rattle.layout.specs.Layout.{sound-layout, length-file}
-use Rattle.layout.specs.Counting.{free-block-count}
-use Rattle.directories.specs.EntryLaws.{length-with}
 use Rattle.soundness.specs.Use.{used}
 use Rattle.soundness.specs.Well.{Well}
-use Rattle.soundness.specs.WellFacts.{directory-form}
 use Rattle.soundness.specs.Seen.{filesStore, isDirectory-seen}
 use Rattle.lookup.specs.Filed.{filed, sound-well, shelves, directory-seen}
 use Rattle.trees.specs.Standing.{Place, some-syllable}
@@ -35,14 +29,17 @@ use Rattle.naming.specs.Located.{InPlace, Recorded}
 use Rattle.naming.specs.At.{is-missing, not-missing, file-directory}
 use Rattle.naming.specs.declared.Located.{Located}
 use Rattle.linking.specs.Names.{Both, FindsNames, names-refused, names-both}
-use Rattle.linking.specs.Fit.{FitsIn, ifFitsIn}
+use Rattle.recording.specs.Fit.{FitsIn, ifFitsIn}
 use Rattle.linking.specs.Link.{lone, Decides}
 use Rattle.linking.specs.declared.Linking.the-variants as L
 use Rattle.linking.specs.declared.Names.{Names}
 use Rattle.linking.specs.declared.Names.the-variants.{Found, Refused}
-use Rattle.linking.specs.declared.Fit.{Fit}
-use Rattle.linking.specs.declared.Fit.the-variants.{Fits, No}
-use Rattle.linking.specs.LinkRest.{sized, recordFor-seen, nowhere-is, follows-both, linkRest, on-link, link-refusal}
+use Rattle.recording.specs.declared.Fit.{Fit}
+use Rattle.recording.specs.declared.Fit.the-variants.{Fits, No}
+use Rattle.placing.specs.Free.{sized}
+use Rattle.placing.specs.Room as R
+use Rattle.naming.specs.InStore.{record-seen}
+use Rattle.linking.specs.LinkRest.{nowhere-is, follows-both, linkRest, on-link, link-refusal}
 
 module _ (b br fr cr old new : List ℕ) (names : Names) (on : FindsNames (tables b br fr cr) old new names) where
   pub no-names : (why : Report) → names ≡ Refused why → Decides (tables b br fr cr) old new (L.No why)
@@ -154,33 +151,19 @@ module _ (b br fr cr old new : List ℕ) (names : Names) (on : FindsNames (table
           -- its record
           module _ (i : ℕ) (recorded : Recorded (filed b br fr) new i) where
             place-is : i ≡ recordFor s to
-            place-is = recorded .place to (both .new-name .at .is) ∙ recordFor-seen b br fr cr to
+            place-is = recorded .place to (both .new-name .at .is) ∙ record-seen b br fr cr to
 
             abbrev size : ℕ
             size = fileLength fr (y .parent .0)
 
-            dir-size : length (s .file (parent s to) .bytes) ≡ size
-            unfolding storeOf
-            dir-size = rw (← both .new-name .at .dir) (length-file t (y .parent .0))
-
             pub few-records : (size ≤ 32768) × (i ≤ 2048)
-            few-records =
-                let form = directory-form s well (parent s to) (at-place .directory) in
-                (omega (arith, form .size, dir-size), omega (arith, place-is, at-place .within, form .size))
+            few-records = R.few-records t is-sound to at-place (y .parent .0) (both .new-name .at .dir) i place-is
 
             new-size : length (naming s to (named s from) .bytes) ≡ max size (16 * i + 16)
-            unfolding naming rewritten
-            new-size =
-                let l = length-with (s .file (parent s to) .bytes) (written (entry (named s from) (last to))) (recordCount (s .file (parent s to) .bytes)) (recordFor s to)
-                (at-place .whole) (length-written (entry (named s from) (last to)) (at-place .spelled)) (at-place .within) in
-                omega (arith, place-is, dir-size, at-place .whole)
-
-            free-is : freeBlockCount br ≡ freeBlocks s
-            free-is = free-block-count t (sound-layout t (both .new-name .at .ok))
+            new-size = R.new-size t is-sound to at-place (y .parent .0) (both .new-name .at .dir) i place-is (named s from)
 
             fits-is : (r : Result) → ifNamingFits s to (naming s to (named s from)) r ≡ ifFitsIn (freeBlockCount br) size (max size (16 * i + 16)) r
-            unfolding ifNamingFits ifFits ifFitsIn
-            fits-is r = rw (dir-size, new-size, free-is)
+            fits-is = R.fits-is t is-sound to at-place (y .parent .0) (both .new-name .at .dir) i place-is (named s from)
 
             module _ (fit : Fit) (fits : FitsIn (freeBlockCount br) size (max size (16 * i + 16)) fit) where
               pub no-fit : (why : Report) → fit ≡ No why → Decides t old new (L.No why)
@@ -199,7 +182,7 @@ module _ (b br fr cr old new : List ℕ) (names : Names) (on : FindsNames (table
                       plain = plain;
                       place = place-is;
                       size = rw new-size (f .0);
-                      room = rw (new-size, dir-size, ← free-is) (f .1);
+                      room = rw (new-size, R.dir-size t is-sound to at-place (y .parent .0) (both .new-name .at .dir) i place-is, ← R.free-is t is-sound to at-place (y .parent .0) (both .new-name .at .dir) i place-is) (f .1);
                       alone = is-l;
                     };
                   }

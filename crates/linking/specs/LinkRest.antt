@@ -2,39 +2,24 @@
 use Prim.Native.Nat.{ℕ}
 use mathlib.Core.Path.{_≡_, refl, sym, _∙_}
 use mathlib.Core.List.{List, [], _∷_}
-use mathlib.Core.Bool.{Bool, true, not, _&&_}
+use mathlib.Core.Bool.{Bool, not, _&&_}
 use lib.Dec.{eqb}
 use borrow.Author.Tests.{le-ltb}
 use Rattle.meaning.specs.File.{longest}
-use Rattle.meaning.specs.Store.{file, after, isDirectory, freeBlocks, named, letGo, front}
-use Rattle.meaning.specs.Tables.{Tables, tables, storeOf}
-use Rattle.meaning.specs.Sound.{sound}
+use Rattle.meaning.specs.Store.{file, after, isDirectory, freeBlocks, named, letGo}
+use Rattle.meaning.specs.Tables.{Tables, storeOf}
 use Rattle.meaning.specs.Result.{Result, refused, done, unless, withSyllables, missing, nowhere, ifFits}
-use Rattle.meaning.specs.NameCalls.{parent, recordFor, naming, ifNamingFits, link}
+use Rattle.meaning.specs.NameCalls.{parent, naming, ifNamingFits, link}
 use Rattle.meaning.specs.Run.{Call, resultOf, meaning, accepts}
 use Rattle.meaning.specs.declared.Report.{Report}
 use Rattle.meaning.specs.declared.Report.the-variants.{NoSuchName, IsDirectory}
-use Rattle.layout.specs.Layout.{sound-layout}
 use Rattle.soundness.specs.Seen.{filesStore, isDirectory-seen}
-use Rattle.lookup.specs.Filed.{filed, bytes-seen}
 use Rattle.trees.specs.Naming.{withName}
-use Rattle.keeping.specs.Sure.{Sized}
-use Rattle.naming.specs.At.{At, named-seen}
+use Rattle.naming.specs.At.{At}
 use Rattle.naming.specs.declared.Located.{Located}
 use Rattle.linking.specs.Names.{Both, onNames}
 use Rattle.linking.specs.Link.{Accepted}
 use Rattle.linking.specs.declared.Plan.{Plan}
-
--- how many files tables have room for
-pub sized : (t : Tables) → sound t ≡ true → Sized (storeOf t)
-unfolding storeOf
-sized t ok = let l = sound-layout t ok .lengths in record { some-files = l .some-files; few-files = l .few-files }
-
--- where a name's record is or goes, whatever channel records lie beside
-pub recordFor-seen : (b br fr cr : List ℕ) (name : List (List ℕ)) → recordFor (filed b br fr) name ≡ recordFor (storeOf (tables b br fr cr)) name
-unfolding recordFor parent missing
-recordFor-seen b br fr cr name =
-    rw (named-seen b br fr cr name, named-seen b br fr cr (front name), ← bytes-seen b br fr cr (named (storeOf (tables b br fr cr)) (front name)))
 
 -- a located name is nowhere
 pub nowhere-is : (t : Tables) (bytes : List ℕ) (k : ℕ) (y : Located) (a : At t bytes k y) (v : Bool)

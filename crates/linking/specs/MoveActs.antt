@@ -1,12 +1,10 @@
 -- An accepted move: what its two acts ask holds, and their changes are those of move.
-use Prim.Native.Nat.{ℕ, _+_, _-_, _*_, _≤_, _<_}
+use Prim.Native.Nat.{ℕ, _+_, _-_}
 use mathlib.Core.Path.{_≡_, refl, sym, ap, subst, _∙_}
-use mathlib.Core.Logic.{_≢_}
 use mathlib.Core.List.{List, [], _∷_, _++_}
 use mathlib.Core.Bool.{Bool, true, false, not}
 use native.Mathlib.Omega.{arith}
-use lib.ListN.{length}
-use Rattle.meaning.specs.Name.{blankRecord, recordCount}
+use Rattle.meaning.specs.Name.{blankRecord}
 use Rattle.meaning.specs.Store.{Store, File, Change, file, afterAll, isDirectory, named, isOrphan, letGo}
 use Rattle.meaning.specs.Tables.{Tables, tables, storeOf, fileCount, put, putAll}
 use Rattle.meaning.specs.Sound.{sound}
@@ -15,12 +13,11 @@ use Rattle.meaning.specs.NameCalls.{parent, recordFor, rewritten, unnaming, lin
 use Rattle.meaning.specs.Run.{Call, resultOf, meaning, accepts}
 use Rattle.meaning.specs.declared.Report.{Report}
 use Rattle.meaning.specs.declared.Report.the-variants.{NotAStore}
-use Rattle.layout.specs.Layout.{Layout, Holding, sound-layout}
+use Rattle.layout.specs.Layout.{Holding, sound-layout}
 use Rattle.layout.specs.Fits.{FileFits}
 use Rattle.layout.specs.Putting.{put-all}
 use Rattle.soundness.specs.Use.{used}
 use Rattle.soundness.specs.WellFacts.{directory-form}
-use Rattle.trees.specs.Standing.{Standing}
 use Rattle.trees.specs.Naming.{withoutName}
 use Rattle.keeping.specs.Named.{unnamed-fits}
 use Rattle.keeping.specs.Moves.{unlink-done}

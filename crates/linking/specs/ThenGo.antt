@@ -1,10 +1,10 @@
 -- A record rewritten in the tables, and then a file let go, or none.
 use Prim.Native.Nat.{ℕ, _≤_, _<_}
-use mathlib.Core.Path.{_≡_, refl, sym, ap, subst, _∙_}
-use mathlib.Core.List.{List, [], _∷_}
+use mathlib.Core.Path.{_≡_, sym, ap, subst, _∙_}
+use mathlib.Core.List.{List, _∷_}
 use mathlib.Core.Bool.{Bool, true}
 use native.Mathlib.Omega.{arith}
-use Rattle.meaning.specs.Store.{Store, Change, file}
+use Rattle.meaning.specs.Store.{Store, file}
 use Rattle.meaning.specs.Tables.{Tables, tables, storeOf, fileCount, put, putAll}
 use Rattle.meaning.specs.NameCalls.{rewritten}
 use Rattle.layout.specs.Layout.{Layout}

@@ -10,25 +10,23 @@ use naming::Located;
 use naming::judge_name;
 use naming::locate;
 use naming::record_for;
+use recording::Fit;
 use recording::give_name;
+use recording::record_fits;
 use recording::take_name;
 use soundness::is_directory;
-use tables::count_free_blocks;
-use tables::file_record;
 use tables::is_held;
 ghost use mathlib.Core.Path.{_≡_};
 ghost use mathlib.Core.Bool.{true, not, _&&_};
-ghost use Prim.Native.Nat.{_+_, _*_, _≤_, _<_, max};
+ghost use Prim.Native.Nat.{_≤_};
 ghost use lib.Dec.{eqb};
 ghost use Rattle.meaning.specs.Store.{isDirectory};
-ghost use Rattle.meaning.specs.Tables.{tables, storeOf, fileCount, fileLength};
+ghost use Rattle.meaning.specs.Tables.{tables, storeOf, fileCount};
 ghost use Rattle.meaning.specs.Sound.{sound};
 ghost use Rattle.meaning.specs.Run.{Keeps, Call, entered};
 ghost use Rattle.meaning.specs.Answers.{reported};
 ghost use Rattle.soundness.specs.Seen.{filesStore};
-ghost use Rattle.tables.specs.Searches.{freeBlockCount};
 ghost use Rattle.linking.specs.Names.{FindsNames};
-ghost use Rattle.linking.specs.Fit.{FitsIn};
 ghost use Rattle.linking.specs.Link.{lone, Decides};
 ghost use Rattle.linking.specs.Act.{goes, lastGoes, MayGo, Linkable, Droppable, LetsGo, Links, Drops};
 ghost use Rattle.linking.specs.Move.{DecidesMove};
@@ -75,32 +73,6 @@ fn is_nowhere(file_records: &[u8], at: Located) -> bool
         return false;
     }
     !is_directory(file_records, at.parent)
-}
-
-// A directory has room for a record, or the refusal where it has none.
-pub enum Fit {
-    Fits,
-    No(Report),
-}
-
-// Whether directory d has room for its record i. Only a record past the end asks for any.
-fn record_fits(block_records: &[u8], file_records: &[u8], d: FileNo, i: usize) -> Fit
-    requires { ⌜ isDirectory (filesStore (now «file_records»)) (d .0) ≡ true ⌝ ∗ ⌜ (fileLength (now «file_records») (d .0) ≤ 32768) × (i ≤ 2048) ⌝ }
-    ensures { λ r. ⌜ FitsIn (freeBlockCount (now («block_records» .entry))) (fileLength (now («file_records» .entry)) (d .0)) (max (fileLength (now («file_records» .entry)) (d .0)) (16 * i + 16)) r ⌝ }
-{
-    let size = file_record(file_records, d).length as usize;
-    let end = 16 * i + 16;
-    if end <= size {
-        return Fit::Fits;
-    }
-    if 32768 < end {
-        return Fit::No(Report::TooBig);
-    }
-    let free = count_free_blocks(block_records);
-    if free < (end + 511) / 512 - (size + 511) / 512 {
-        return Fit::No(Report::NoRoom);
-    }
-    Fit::Fits
 }
 
 // Whether g is a file with one name and no channel.

@@ -11,6 +11,7 @@ pub mod Run
 pub mod Determined
 pub mod PromiseLaws
 pub mod Answers
+pub mod Outcomes
 pub mod Text
 pub mod Running
 pub mod Figures

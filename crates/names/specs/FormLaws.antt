@@ -10,11 +10,11 @@ use lib.ListN.{length, drop, getD}
 use borrow.Author.Tests.{le-leb, lt-leb, eq-eqb, ne-eqb}
 use Rattle.records.specs.Rows.{pick, every}
 use Rattle.records.specs.Numbers.{one}
+use Rattle.records.specs.RowLaws.{every-front}
 use Rattle.records.specs.Tests.{and-false}
 use Rattle.meaning.specs.Name.{slash, mostSyllables, isSyllable, split, areSyllables, syllables}
 use Rattle.names.specs.declared.NameForm.the-variants.{Syllables, Bad}
 use Rattle.names.specs.Syllables.{formOf, formWith}
-use Rattle.names.specs.ByteLaws.{every-front}
 
 -- ---- k syllables and the pieces that follow
 

@@ -12,11 +12,11 @@ use borrow.Author.Tests.{eq-eqb}
 use Rattle.records.specs.Rows.{lowest}
 use Rattle.records.specs.Numbers.{one}
 use Rattle.records.specs.Tests.{lt-or-ge}
+use Rattle.records.specs.RowLaws.{lowest-is}
 use Rattle.meaning.specs.Name.{slash, split, syllables}
 use Rattle.meaning.specs.Store.{front, last}
 use Rattle.paths.specs.Taking.{isSlash, syllableEnd}
 use Rattle.names.specs.Syllables.{part, syllablesFrom, placeOf, lastStart}
-use Rattle.names.specs.ByteLaws.{lowest-is}
 use Rattle.names.specs.SyllableLaws.{ends, end-within, split-from, split-some, rest-slash}
 use Rattle.names.specs.ReadLaws.{Placed, at-place, read, syllable-is}
 

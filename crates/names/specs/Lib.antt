@@ -1,4 +1,4 @@
-pub mod ByteLaws
+pub mod SameLaws
 pub mod Syllables
 pub mod SyllableTests
 pub mod SyllableLaws

@@ -9,10 +9,9 @@ use lib.ListN.{length, take, drop, replicate, length-append, length-replicate, l
 use lib.Seq.{ext-getD, take-append-seam, length-take-le, getD-drop, getD-take}
 use borrow.Author.Tests.{eq-eqb, eqb-true}
 use Rattle.records.specs.Numbers.{one, two, twoBytes, zeros}
-use Rattle.records.specs.RowLaws.{lowest-cong, lowest-within, every-all}
+use Rattle.records.specs.RowLaws.{lowest-cong, lowest-within, every-all, lowest-is}
 use Rattle.records.specs.Tests.{and-right}
 use Rattle.meaning.specs.Name.{isSyllable, Entry, entry, written, nameEnd, entryIn, isWritten}
-use Rattle.names.specs.ByteLaws.{lowest-is}
 use Rattle.names.specs.SyllableTests.{syllable-short, syllable-no-zero}
 
 -- ---- what is written reads as it was

@@ -11,10 +11,11 @@ use lib.Seq.{sets, ext-getD, getD-take, getD-drop}
 use borrow.Author.Tests.{eq-eqb, ne-eqb, eqb-true, eqb-false, not-true}
 use Rattle.records.specs.Rows.{every}
 use Rattle.records.specs.Numbers.{one, twoBytes, zeros}
-use Rattle.records.specs.RowLaws.{lowest-hit, lowest-misses, every-all}
-use Rattle.records.specs.Tests.{and-left, and-right}
+use Rattle.records.specs.RowLaws.{lowest-hit, lowest-misses, every-all, every-cong, lowest-is}
+use Rattle.records.specs.Tests.{and-left, and-right, test-both}
+use Rattle.records.specs.RecordLaws.{sets-append}
 use Rattle.meaning.specs.Name.{same, entry, written, nameEnd, entryIn, recordAt, entryAt}
-use Rattle.names.specs.ByteLaws.{every-cong, sets-append, lowest-is, same-is, is-same, not-same, test-both}
+use Rattle.names.specs.SameLaws.{same-is, is-same, not-same}
 use Rattle.names.specs.RecordLaws.{one-padded, nameEnd-within, name-length, name-one}
 
 -- the 16 bytes from a place on
@@ -76,7 +77,7 @@ module _ (name : List ℕ) where
 pub laid-written : (table name : List ℕ) (at f : ℕ) → sets (sets table at (twoBytes f)) (at + 2) (padded name) ≡ sets table at (written (entry f name))
 unfolding padded written
 laid-written table name at f =
-    rw append-assoc (sym (sets-append (twoBytes f) (name ++ replicate (14 - length name) 0) table at (at + 2) (unfold twoBytes in refl)))
+    rw append-assoc (sets-append (twoBytes f) (name ++ replicate (14 - length name) 0) table at (at + 2) (unfold twoBytes in refl))
 
 -- ---- whether a record's name is a row of bytes
 

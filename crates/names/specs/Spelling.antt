@@ -9,8 +9,8 @@ use lib.Dec.{eqb}
 use lib.ListN.{length, drop, getD}
 use borrow.Author.Tests.{eqb-true}
 use Rattle.records.specs.Numbers.{one}
+use Rattle.records.specs.ListLaws.{drop-one}
 use Rattle.meaning.specs.Name.{slash, isSyllable, before, split, areSyllables, syllables}
-use Rattle.names.specs.ByteLaws.{drop-one}
 use Rattle.names.specs.SyllableTests.{syllable-no-slash}
 use Rattle.names.specs.ReadLaws.{in-pieces, are-each, root-is}
 use Rattle.names.specs.SyllableLaws.{split-some}

@@ -13,10 +13,10 @@ use Rattle.records.specs.Rows.{pick, lowestFrom}
 use Rattle.records.specs.Numbers.{one}
 use Rattle.records.specs.RowLaws.{Found, from-found}
 use Rattle.records.specs.Tests.{lt-or-ge}
+use Rattle.records.specs.ListLaws.{drop-none, drop-one}
 use Rattle.meaning.specs.Name.{isSyllable, before, split}
 use Rattle.paths.specs.Taking.{isSlash, syllableEnd}
 use Rattle.names.specs.Syllables.{part, restFrom, syllablesFrom, Reaches}
-use Rattle.names.specs.ByteLaws.{drop-none, drop-one}
 
 -- ---- parts
 

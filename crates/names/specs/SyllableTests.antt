@@ -10,8 +10,8 @@ use Rattle.records.specs.Rows.{every}
 use Rattle.records.specs.Numbers.{one}
 use Rattle.records.specs.RowLaws.{every-all}
 use Rattle.records.specs.Tests.{and-left, and-right, and-false}
+use Rattle.records.specs.LoopLaws.{every-fail}
 use Rattle.meaning.specs.Name.{slash, isSyllable}
-use Rattle.names.specs.ByteLaws.{every-not}
 
 -- a byte of a syllable: neither 0 nor "/"
 abbrev pub isPlain : List ℕ → ℕ → Bool
@@ -28,7 +28,7 @@ module _ (s : List ℕ) where
 
   pub syllable-not : (i : ℕ) → i < length s → isPlain s i ≡ false → isSyllable s ≡ false
   unfolding isSyllable
-  syllable-not i h e = rw (every-not (length s) (isPlain s) i h e, and-false (ltb 0 (length s) && leb (length s) 14))
+  syllable-not i h e = rw (every-fail (isPlain s) i (length s) h e, and-false (ltb 0 (length s) && leb (length s) 14))
 
   pub syllable-yes : 0 < length s → length s ≤ 14 → every (length s) (isPlain s) ≡ true → isSyllable s ≡ true
   unfolding isSyllable

@@ -1,6 +1,6 @@
 -- What create gives on a well-written name, case by case.
-use Prim.Native.Nat.{ℕ, _+_, _-_, _*_, _/_, _≤_, _<_, max}
-use mathlib.Core.Path.{_≡_, refl, sym, ap, subst, _∙_}
+use Prim.Native.Nat.{ℕ, _+_, _-_, _*_, max}
+use mathlib.Core.Path.{_≡_, refl, sym, _∙_}
 use mathlib.Core.Logic.{_≢_}
 use mathlib.Core.List.{List, [], _∷_}
 use mathlib.Core.Bool.{Bool, true, false}
@@ -11,7 +11,7 @@ use Rattle.meaning.specs.File.{needed, longest}
 use Rattle.meaning.specs.Store.{Store, Change, file, channel, channelTo, ordinary, isDirectory, named, freeChannel, freeFile}
 use Rattle.meaning.specs.Tables.{Tables, storeOf, fileCount, channelCount, fileLength}
 use Rattle.meaning.specs.NameCalls.{parent, recordFor, rewritten, naming, ifNamingFits, create}
-use Rattle.meaning.specs.Result.{Result, refused, done, unless, missing, nowhere, allOpen, allUsed}
+use Rattle.meaning.specs.Result.{Result, done, unless, missing, nowhere, allOpen, allUsed}
 use Rattle.meaning.specs.Run.{Call, resultOf, meaning, accepts}
 use Rattle.meaning.specs.declared.Report.{Report}
 use Rattle.meaning.specs.declared.Report.the-variants.{NoSuchName, IsDirectory, NoFreeCids, NoFreeFids}
@@ -25,8 +25,10 @@ use Rattle.naming.specs.declared.Judged.the-variants.{Refused}
 use Rattle.recording.specs.Recording.{recordOf}
 use Rattle.recording.specs.Fit.{FitsIn, ifFitsIn}
 use Rattle.recording.specs.declared.Fit.the-variants as F
+use Rattle.placing.specs.Free.{channel-within, channel-free, no-channel-free, some-channel-free, file-within, file-free, no-file-free, some-file-free}
+use Rattle.placing.specs.NewName.{fits-is}
 use Rattle.opening.specs.Create.{Created}
-use Rattle.opening.specs.CreateLaws.{channel-within, channel-free, no-channel-free, some-channel-free, file-within, file-free, no-file-free, some-file-free, same-naming, no-directory, old-clears, same-record, fits-is, makes}
+use Rattle.opening.specs.CreateLaws.{no-directory, old-clears, same-record, makes}
 use Rattle.opening.specs.declared.Creating.the-variants.{Old, New, No}
 
 -- what follows on the name

@@ -1,15 +1,19 @@
 -- Laws of the rows as a loop at i meets them: the start, the step to i + 1, the end.
 use Prim.Native.Nat.{ℕ, _+_, _-_, _≤_, _<_}
-use mathlib.Core.Path.{_≡_, refl, sym, _∙_}
+use mathlib.Core.Path.{_≡_, refl, ap, sym, _∙_}
 use mathlib.Core.Logic.{⊎-elim}
+use mathlib.Core.List.{List, [], _∷_}
 use mathlib.Core.Bool.{Bool, true, false, true≢false}
 use native.Mathlib.Numerals.{add-one}
 use native.Mathlib.Omega.{arith}
 use lib.Dec.{ltb, eqb}
+use lib.ListN.{length, take, getD, set, length-take}
+use lib.Seq.{sets, take-suc, take-all}
 use borrow.Author.Tests.{lt-ltb, le-ltb, eq-eqb, ne-eqb}
 use Rattle.records.specs.Rows.{tally, lowest, lowestFrom, every, howMany, sum}
 use Rattle.records.specs.Tests.{tested, lt-or-ge}
 use Rattle.records.specs.RowLaws.{search-hit, search-miss, search-end, every-all, howMany-mono, sum-constant, sum-term, lowest-hit, some-lowest}
+use Rattle.records.specs.RecordLaws.{sets-append}
 
 -- ---- a search: what is left of it gives what the whole gives
 
@@ -117,3 +121,16 @@ counted-all p n i count l h so-far = let e : i ≡ n = omega arith in rw e at so
 
 pub summed-all : (g : ℕ → ℕ) (n i total : ℕ) → i ≤ n → n ≤ i → total ≡ sum i g → total ≡ sum n g
 summed-all g n i total l h so-far = let e : i ≡ n = omega arith in rw e at so-far
+
+-- ---- stores, one behind the other
+
+module _ {A : Type 0} where
+  -- a loop that lays the bytes of vs one by one: one more, and all of them
+  module _ (vs l now : List A) (at i : ℕ) (laid : now ≡ sets l at (take i vs)) where
+    pub laid-next : (b d : A) → i < length vs → b ≡ getD vs i d → set now (at + i) b ≡ sets l at (take (i + 1) vs)
+    laid-next b d h e =
+        let k : at + i ≡ at + length (take i vs) = rw length-take (omega arith) in
+        rw (laid, e, add-one i, take-suc vs i d h) (sets-append (take i vs) (getD vs i d ∷ []) l at (at + i) k)
+
+    pub laid-all : length vs ≤ i → now ≡ sets l at vs
+    laid-all h = laid ∙ ap (λ v. sets l at v) (take-all i vs h)

@@ -1,17 +1,14 @@
 -- Laws of the rows of Rows.antt, stated of every test, rule and length.
 use Prim.Native.Nat.{ℕ, zero, suc, _+_, _-_, _*_, _≤_, _<_}
-use mathlib.Core.Path.{_≡_, refl, ap, ap₂, sym, _∙_}
+use mathlib.Core.Path.{_≡_, refl, ap, sym, _∙_}
 use mathlib.Core.Logic.{_≢_, ⊎-elim}
-use mathlib.Core.List.{List, [], _∷_}
-use mathlib.Core.Bool.{Bool, true, false, true≢false}
+use mathlib.Core.Bool.{Bool, true, false, _&&_, true≢false}
 use native.Mathlib.Numerals.{add-one}
 use native.Mathlib.Omega.{arith}
 use lib.Dec.{ltb, eqb}
-use lib.ListN.{length, getD}
-use lib.Seq.{ext-getD}
 use borrow.Author.Tests.{eq-eqb, ne-eqb, lt-ltb, le-ltb}
-use Rattle.records.specs.Rows.{pick, tally, lowest, lowestFrom, every, howMany, sum, listOf, listFrom}
-use Rattle.records.specs.Tests.{and-left, and-right, same-or-not, le-or-gt}
+use Rattle.records.specs.Rows.{pick, tally, lowest, lowestFrom, every, howMany, sum}
+use Rattle.records.specs.Tests.{and-left, and-right, same-or-not, le-or-gt, lt-or-ge}
 
 -- ---- a search, as a loop at i meets it
 
@@ -94,6 +91,19 @@ pub lowest-cong : (n : ℕ) (p q : ℕ → Bool) → ((k : ℕ) → k < n → p 
 unfolding lowest
 lowest-cong n p q e = from-cong 0 n p q (λ k l h. e k (omega arith))
 
+-- k is the lowest if all below it fail, and it passes or is the end
+pub lowest-is : (n : ℕ) (p : ℕ → Bool) (k : ℕ) → k ≤ n → ((i : ℕ) → i < k → p i ≡ false) → (k < n → p k ≡ true) → lowest n p ≡ k
+lowest-is n p k l misses hit =
+    let low : k ≤ lowest n p =
+    ⊎-elim
+    (λ h. h)
+    (λ (h : lowest n p < k). absurd (true≢false (sym (lowest-hit n p (omega (arith, lowest-within n p))) ∙ misses (lowest n p) h)))
+    (le-or-gt k (lowest n p)) in
+    ⊎-elim
+    (λ (h : k < n). omega (arith, lowest-le n p k (hit h)))
+    (λ (h : n ≤ k). omega (arith, lowest-within n p))
+    (lt-or-ge k n)
+
 -- ---- every
 
 pub every-all : (n : ℕ) (p : ℕ → Bool) → every n p ≡ true → (i : ℕ) → i < n → p i ≡ true
@@ -111,6 +121,20 @@ pub every-cong : (n : ℕ) (p q : ℕ → Bool) → ((i : ℕ) → i < n → p i
 unfolding every
 every-cong zero p q e = refl
 every-cong (suc n) p q e = rw (every-cong n p q (λ i h. e i (omega arith)), e n (omega arith))
+
+-- from the front: the first passes, and every one behind it
+pub every-front : (n : ℕ) (p : ℕ → Bool) → every (suc n) p ≡ p 0 && every n (λ i. p (suc i))
+unfolding every
+every-front zero p = go (p 0)
+  where
+    go : (t : Bool) → true && t ≡ t && true
+    go true = refl
+    go false = refl
+every-front (suc n) p = rw (every-front n p) (and-assoc (p 0) (every n (λ i. p (suc i))) (p (suc n)))
+  where
+    and-assoc : (a b c : Bool) → (a && b) && c ≡ a && (b && c)
+    and-assoc true b c = refl
+    and-assoc false b c = refl
 
 -- ---- sums
 
@@ -208,41 +232,3 @@ some-lowest n p h =
     (λ (g : n ≤ lowest n p). absurd (let z : howMany n p ≡ 0 = howMany-none n p (λ i l. lowest-misses n p i (omega arith)) in omega arith))
     (λ l. l)
     (le-or-gt n (lowest n p))
-
--- ---- the list that a rule makes
-
-module _ {A : Type 0} where
-  length-from : (i n : ℕ) (g : ℕ → A) → length (listFrom i n g) ≡ n
-  unfolding listFrom
-  length-from i zero g = refl
-  length-from i (suc n) g = ap suc (length-from (suc i) n g)
-
-  pub length-listOf : (n : ℕ) (g : ℕ → A) → length (listOf n g) ≡ n
-  unfolding listOf
-  length-listOf n g = length-from 0 n g
-
-  getD-from : (i n : ℕ) (g : ℕ → A) (k : ℕ) (d : A) → k < n → getD (listFrom i n g) k d ≡ g (i + k)
-  unfolding listFrom
-  getD-from i zero g k d h = absurd (omega arith)
-  getD-from i (suc n) g zero d h = ap g (let z : i ≡ i + 0 = omega arith in z)
-  getD-from i (suc n) g (suc k) d h = getD-from (suc i) n g k d (omega arith) ∙ ap g (let z : suc i + k ≡ i + suc k = omega arith in z)
-
-  pub getD-listOf : (n : ℕ) (g : ℕ → A) (k : ℕ) (d : A) → k < n → getD (listOf n g) k d ≡ g k
-  unfolding listOf
-  getD-listOf n g k d h = getD-from 0 n g k d h ∙ ap g (let z : 0 + k ≡ k = omega arith in z)
-
-  -- a list is what a rule makes if it has the length and each element is the rule's
-  pub is-listOf : (n : ℕ) (g : ℕ → A) (d : A) (l : List A) → length l ≡ n → ((k : ℕ) → k < n → g k ≡ getD l k d) → listOf n g ≡ l
-  is-listOf n g d l e h =
-      ext-getD d (listOf n g) l (length-listOf n g ∙ sym e)
-      (λ k b. let b′ : k < n = rw length-listOf at b in getD-listOf n g k d b′ ∙ h k b′)
-
-  listFrom-cong : (i n : ℕ) (g h : ℕ → A) → ((k : ℕ) → i ≤ k → k < i + n → g k ≡ h k) → listFrom i n g ≡ listFrom i n h
-  unfolding listFrom
-  listFrom-cong i zero g h e = refl
-  listFrom-cong i (suc n) g h e =
-      ap₂ _∷_ (e i (omega arith) (omega arith)) (listFrom-cong (suc i) n g h (λ k l b. e k (omega arith) (omega arith)))
-
-  pub listOf-cong : (n : ℕ) (g h : ℕ → A) → ((k : ℕ) → k < n → g k ≡ h k) → listOf n g ≡ listOf n h
-  unfolding listOf
-  listOf-cong n g h e = listFrom-cong 0 n g h (λ k l b. e k (omega arith))

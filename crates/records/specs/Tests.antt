@@ -13,6 +13,16 @@ pub tested : (t : Bool) → (t ≡ true) ⊎ (t ≡ false)
 tested true = inl refl
 tested false = inr refl
 
+-- a test that does not pass fails
+pub not-false-true : (t : Bool) → t ≢ true → t ≡ false
+not-false-true true h = absurd (h refl)
+not-false-true false h = refl
+
+-- two tests that pass together are equal
+pub test-both : (s t : Bool) → (s ≡ true → t ≡ true) → (t ≡ true → s ≡ true) → s ≡ t
+test-both true t f g = sym (f refl)
+test-both false t f g = sym (not-false-true t (λ e. true≢false (sym (g e))))
+
 pub and-left : (s t : Bool) → s && t ≡ true → s ≡ true
 and-left true t e = refl
 and-left false t e = e

@@ -10,13 +10,13 @@ use lib.Seq.{ext-getD}
 use lib.Dec.{eqb}
 use borrow.Author.Tests.{eq-eqb, ne-eqb, eqb-true, eqb-false, not-true}
 use Rattle.records.specs.Rows.{every, lowest}
-use Rattle.records.specs.RowLaws.{lowest-cong, lowest-hit, every-all}
+use Rattle.records.specs.RowLaws.{lowest-cong, lowest-hit, every-all, lowest-is}
 use Rattle.records.specs.LoopLaws.{every-start, every-step}
 use Rattle.records.specs.NumberLaws.{zeros-cong}
 use Rattle.records.specs.Numbers.{one, zeros}
 use Rattle.records.specs.Tests.{both, lt-or-ge}
 use Rattle.meaning.specs.Name.{nameEnd, entryIn, isWritten, isSyllable, same}
-use Rattle.names.specs.ByteLaws.{lowest-is, is-same, not-same}
+use Rattle.names.specs.SameLaws.{is-same, not-same}
 use Rattle.names.specs.Syllables.{part}
 use Rattle.names.specs.SyllableLaws.{length-part, one-part}
 use Rattle.names.specs.RecordLaws.{nameEnd-within, name-length, name-one}

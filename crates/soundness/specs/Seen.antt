@@ -2,7 +2,8 @@
 use Prim.Native.Nat.{ℕ, zero, suc}
 use mathlib.Core.Path.{_≡_, refl}
 use mathlib.Core.List.{List, []}
-use Rattle.records.specs.RowLaws.{every-cong, length-listOf}
+use Rattle.records.specs.RowLaws.{every-cong}
+use Rattle.records.specs.ListLaws.{length-listOf}
 use Rattle.meaning.specs.Store.{Store, inUse, isDirectory}
 use Rattle.meaning.specs.Tables.{Tables, tables, storeOf, fileOf, channelOf, byteOf, fileCount, channelCount, owner, lengthAt, channelFileAt}
 use Rattle.meaning.specs.Sound.{asFree, asOrdinary, asDirectory, fileSound, filesSound, channelSound, channelsSound, blockSound}

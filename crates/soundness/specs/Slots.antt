@@ -5,8 +5,8 @@ use mathlib.Core.Path.{_≡_, refl, sym, ap, _∙_}
 use mathlib.Core.List.{List, []}
 use native.Mathlib.Omega.{arith}
 use lib.ListN.{length, getD}
-use Rattle.records.specs.RowLaws.{length-listOf}
 use Rattle.records.specs.Numbers.{zeros}
+use Rattle.records.specs.ListLaws.{length-listOf}
 use Rattle.meaning.specs.File.{needed, longest}
 use Rattle.meaning.specs.Name.{recordAt, entryAt, entryIn, isBlank}
 use Rattle.meaning.specs.Store.{Store}

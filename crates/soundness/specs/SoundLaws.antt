@@ -5,9 +5,10 @@ use mathlib.Core.List.{List, [], _∷_}
 use mathlib.Core.Bool.{Bool, true, _&&_}
 use native.Mathlib.Omega.{arith}
 use Rattle.records.specs.Rows.{allOf, every}
-use Rattle.records.specs.RowLaws.{every-all, every-cong, length-listOf}
+use Rattle.records.specs.RowLaws.{every-all, every-cong}
 use Rattle.records.specs.Numbers.{zeros}
 use Rattle.records.specs.Tests.{both, and-both, allOf-true, true-allOf}
+use Rattle.records.specs.ListLaws.{length-listOf}
 use Rattle.meaning.specs.File.{longest}
 use Rattle.meaning.specs.Tables.{Tables, tables, storeOf, fileOf, byteOf, blockCount, fileCount, lengthAt}
 use Rattle.meaning.specs.Sound.{lengthsAgree, zerosStand, blockSound, placedOnce, blocksSound, layoutSound, fileSound, filesSound}

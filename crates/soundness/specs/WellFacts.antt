@@ -15,7 +15,7 @@ use Rattle.records.specs.Tests.{tested, and-left, and-right, lt-or-ge}
 use Rattle.meaning.specs.File.{longest}
 use Rattle.meaning.specs.Name.{recordCount, recordAt, entryAt, entryIn, isBlank}
 use Rattle.meaning.specs.Store.{Store, File, noFile, root, inUse, isDirectory, isOpen}
-use Rattle.names.specs.ByteLaws.{is-same}
+use Rattle.names.specs.SameLaws.{is-same}
 use Rattle.soundness.specs.Use.{Used, used, directory-used, directory-kind, of-directory, not-directory}
 use Rattle.soundness.specs.Well.{FreeFile, OrdinaryFile, DirectoryFile, FileForm, as-free, as-ordinary, as-directory, OpenChannel, ChannelForm, NamingRecord, RecordForm, as-blank, as-naming, Well}
 

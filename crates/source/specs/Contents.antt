@@ -9,7 +9,7 @@ use native.Mathlib.Omega.{arith}
 use lib.ListN.{length, length-append}
 use lib.Seq.{take-at, getD-at}
 use borrow.Author.Tests.{not-false}
-use Rattle.names.specs.ByteLaws.{not-false-true}
+use Rattle.records.specs.Tests.{not-false-true}
 use Rattle.meaning.specs.Name.{recordCount, isBlank, entryAt, nameCount, listing}
 use Rattle.meaning.specs.Store.{Store, afterAll, isDirectory, within, named, front, last}
 use Rattle.meaning.specs.NameCalls.{ls}

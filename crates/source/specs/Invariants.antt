@@ -7,7 +7,7 @@ use mathlib.Core.Bool.{true, false}
 use mathlib.Core.Option.{some}
 use native.Mathlib.Omega.{arith}
 use lib.ListN.{length, length-take}
-use Rattle.names.specs.ByteLaws.{not-false-true}
+use Rattle.records.specs.Tests.{not-false-true}
 use Rattle.meaning.specs.Name.{mostSyllables, recordCount, isBlank, entryAt, recordNamed, inDirectory}
 use Rattle.meaning.specs.Store.{Store, afterAll, root, inUse, isDirectory, within, named, front, last}
 use Rattle.meaning.specs.Tables.{storeOf}

@@ -9,10 +9,10 @@ use mathlib.Core.Option.{none, some}
 use native.Mathlib.Omega.{arith}
 use lib.ListN.{length}
 use Rattle.records.specs.Rows.{pick}
+use Rattle.records.specs.Tests.{not-false-true}
 use Rattle.meaning.specs.Name.{Entry, entry, isSyllable, written, entryIn, blankRecord, isBlank}
 use Rattle.meaning.specs.Store.{Store, File, inUse, isDirectory, named, last}
 use Rattle.meaning.specs.NameCalls.{parent, recordFor, rewritten, naming, unnaming}
-use Rattle.names.specs.ByteLaws.{not-false-true}
 use Rattle.soundness.specs.Use.{directory-used, not-so}
 use Rattle.soundness.specs.Well.{Well}
 use Rattle.soundness.specs.WellFacts.{blank-file, naming-record}

@@ -6,11 +6,10 @@ use mathlib.Core.List.{List, [], _∷_, _++_}
 use mathlib.Core.Bool.{true, false, true≢false}
 use native.Mathlib.Omega.{arith}
 use lib.ListN.{length, length-take}
-use Rattle.records.specs.Tests.{same-or-not}
+use Rattle.records.specs.Tests.{same-or-not, not-false-true}
 use Rattle.meaning.specs.Name.{Entry, entryIn, recordCount, isBlank, entryAt, recordNamed, inDirectory, withEntry}
 use Rattle.meaning.specs.Store.{Store, File, isDirectory, within, named, front, last}
 use Rattle.meaning.specs.NameCalls.{parent, recordFor}
-use Rattle.names.specs.ByteLaws.{not-false-true}
 use Rattle.directories.specs.EntryLaws.{count-with, entry-same, entry-other}
 use Rattle.soundness.specs.Use.{directory-used}
 use Rattle.soundness.specs.Well.{Well}

@@ -6,8 +6,8 @@ use mathlib.Core.List.{List, [], _∷_, _++_}
 use mathlib.Core.Bool.{true, false, true≢false}
 use native.Mathlib.Omega.{arith}
 use lib.ListN.{length, length-take}
-use Rattle.records.specs.Tests.{same-or-not}
-use Rattle.names.specs.ByteLaws.{is-same, not-false-true}
+use Rattle.records.specs.Tests.{same-or-not, not-false-true}
+use Rattle.names.specs.SameLaws.{is-same}
 use Rattle.meaning.specs.Name.{recordCount, isBlank, entryAt, recordNamed, inDirectory}
 use Rattle.meaning.specs.Store.{Store, root, isDirectory, within, named, front, last, names}
 use Rattle.soundness.specs.Use.{directory-used}

@@ -11,7 +11,7 @@ use lib.Dec.{ltb, eqb}
 use borrow.Author.Tests.{eq-eqb, ne-eqb, eqb-true, eqb-false, ltb-true}
 use Rattle.records.specs.Rows.{pick}
 use Rattle.records.specs.Tests.{and-left, and-right, and-both}
-use Rattle.names.specs.ByteLaws.{same-is, is-same}
+use Rattle.names.specs.SameLaws.{same-is, is-same}
 use Rattle.meaning.specs.Name.{same}
 use Rattle.meaning.specs.Store.{Store, inUse, isOpen}
 use Rattle.source.specs.Sets.{_⇸_, ℙ, _⟼_, _⊕_, _⩤_, _∈dom_, _∉dom_, the, sameName, theName}

@@ -6,7 +6,8 @@ use native.Mathlib.Numerals.{add-one}
 use native.Mathlib.Omega.{arith}
 use lib.ListN.{length}
 use lib.Dec.{ltb}
-use Rattle.records.specs.RowLaws.{sum-cong, length-listOf}
+use Rattle.records.specs.RowLaws.{sum-cong}
+use Rattle.records.specs.ListLaws.{length-listOf}
 use Rattle.meaning.specs.File.{needed}
 use Rattle.meaning.specs.Store.{blocksNeeded, freeFile, freeFiles, freeChannel, freeChannels, held}
 use Rattle.meaning.specs.Tables.{Tables, storeOf, fileOf, channelOf, byteOf, fileCount, kindAt, depthAt, lengthAt, fileLength, channelFileAt, positionAt}

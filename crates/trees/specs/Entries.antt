@@ -10,11 +10,12 @@ use lib.Dec.{eqb}
 use borrow.Author.Tests.{eq-eqb}
 use Rattle.records.specs.Numbers.{one, zeros}
 use Rattle.records.specs.NumberLaws.{zeros-zero, zero-zeros}
-use Rattle.records.specs.Tests.{and-left, lt-or-ge}
+use Rattle.records.specs.Tests.{and-left, lt-or-ge, not-false-true}
+use Rattle.records.specs.RowLaws.{lowest-is}
 use Rattle.meaning.specs.FileLaws.{byte-past}
 use Rattle.meaning.specs.Name.{isSyllable, isWritten, nameEnd, entryIn, recordCount, recordAt, isBlank, entryAt, recordNamed, inDirectory}
 use Rattle.meaning.specs.Store.{Store, isDirectory}
-use Rattle.names.specs.ByteLaws.{lowest-is, is-same, not-false-true}
+use Rattle.names.specs.SameLaws.{is-same}
 use Rattle.names.specs.SyllableTests.{syllable-some}
 use Rattle.directories.specs.EntryLaws.{byte-record}
 use Rattle.soundness.specs.Use.{used}

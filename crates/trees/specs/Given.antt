@@ -10,7 +10,7 @@ use Rattle.records.specs.Tests.{tested, same-or-not}
 use Rattle.meaning.specs.Name.{Entry, entry, same, isSyllable, written, entryIn, blankRecord, recordCount, entryAt, recordNamed, inDirectory}
 use Rattle.meaning.specs.Store.{Store, isDirectory, named, last}
 use Rattle.meaning.specs.NameCalls.{parent, recordFor, naming, unnaming}
-use Rattle.names.specs.ByteLaws.{same-is, is-same}
+use Rattle.names.specs.SameLaws.{same-is, is-same}
 use Rattle.soundness.specs.Well.{Well}
 use Rattle.trees.specs.Records.{named-has, in-found, in-some}
 use Rattle.trees.specs.Rewrite.{withRecord}

@@ -8,9 +8,8 @@ use native.Mathlib.Omega.{arith}
 use lib.Dec.{eqb}
 use borrow.Author.Tests.{eqb-true, not-true}
 use Rattle.records.specs.Rows.{pick}
-use Rattle.records.specs.Tests.{same-or-not}
+use Rattle.records.specs.Tests.{same-or-not, not-false-true}
 use Rattle.meaning.specs.Store.{Store, File, file, after, afterAll, noFile, inUse, isDirectory, named, names, held, isOrphan, letGo}
-use Rattle.names.specs.ByteLaws.{not-false-true}
 use Rattle.soundness.specs.Use.{four, directory-kind}
 use Rattle.trees.specs.AfterFile.{file-changed, file-other, same-directory}
 use Rattle.trees.specs.Lookups.{named-cong}

@@ -6,11 +6,10 @@ use mathlib.Core.List.{List, [], _∷_, reverse}
 use mathlib.Core.Bool.{Bool, true, false, true≢false}
 use native.Mathlib.Omega.{arith}
 use lib.ListN.{length}
-use Rattle.records.specs.Tests.{same-or-not}
+use Rattle.records.specs.Tests.{same-or-not, not-false-true}
 use Rattle.meaning.specs.Name.{entryIn, recordCount, isBlank, entryAt, recordNamed, inDirectory, withEntry}
 use Rattle.meaning.specs.Store.{Store, isDirectory, within, namedBack, named, front, last}
 use Rattle.meaning.specs.NameCalls.{parent}
-use Rattle.names.specs.ByteLaws.{not-false-true}
 use Rattle.lookup.specs.Walk.{named-last}
 use Rattle.soundness.specs.Use.{directory-used}
 use Rattle.soundness.specs.WellFacts.{blank-file}

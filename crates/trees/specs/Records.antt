@@ -7,10 +7,10 @@ use mathlib.Core.Bool.{false, not, true≢false}
 use native.Mathlib.Omega.{arith}
 use lib.ListN.{length}
 use borrow.Author.Tests.{lt-ltb, le-ltb}
-use Rattle.records.specs.RowLaws.{lowest-hit, lowest-misses, lowest-within}
+use Rattle.records.specs.RowLaws.{lowest-hit, lowest-misses, lowest-within, lowest-is}
 use Rattle.records.specs.Tests.{same-or-not, lt-or-ge}
 use Rattle.meaning.specs.Name.{Entry, same, entryIn, recordCount, entryAt, recordNamed, inDirectory, withEntry}
-use Rattle.names.specs.ByteLaws.{lowest-is, same-is, is-same, not-same}
+use Rattle.names.specs.SameLaws.{same-is, is-same, not-same}
 use Rattle.directories.specs.EntryLaws.{count-with, entry-same, entry-other}
 
 -- ---- the record that has a name

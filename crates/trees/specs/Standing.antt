@@ -14,7 +14,7 @@ use Rattle.meaning.specs.Name.{isSyllable, syllables, recordCount, isBlank, ent
 use Rattle.meaning.specs.Store.{Store, root, inUse, isDirectory, within, namedBack, named, front, last}
 use Rattle.meaning.specs.Result.{missing, nowhere}
 use Rattle.meaning.specs.NameCalls.{parent, recordFor}
-use Rattle.names.specs.ByteLaws.{is-same}
+use Rattle.names.specs.SameLaws.{is-same}
 use Rattle.names.specs.ReadLaws.{read}
 use Rattle.lookup.specs.Walk.{named-last}
 use Rattle.soundness.specs.Well.{Well}

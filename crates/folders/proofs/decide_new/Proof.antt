@@ -22,7 +22,9 @@ use Rattle.recording.specs.Fit.{FitsIn}
 use Rattle.recording.specs.declared.Fit.{Fit}
 use Rattle.recording.specs.declared.Fit.the-variants as F
 use Rattle.folders.specs.Make.{NewName, Made}
-use Rattle.folders.specs.MakeLaws.{file-within, deep, its-depth, shallow, few-records}
+use Rattle.placing.specs.Free.{file-within}
+use Rattle.placing.specs.NewName.{deep, few-records}
+use Rattle.folders.specs.MakeLaws.{its-depth, shallow}
 use Rattle.folders.specs.MakeCases.{no-file, no-fit, makes}
 use Rattle.folders.specs.declared.Making.the-variants.{Of, No}
 use Rattle.folders.proofs.decide_new.Statement.{statement}

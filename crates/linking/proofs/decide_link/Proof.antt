@@ -1,18 +1,7 @@
 -- Each return is a case of what link gives on two well-written names, by the tests that led there.
-use Prim.Native.Nat.{ℕ, _+_, _-_, _*_, _/_, _≤_, _<_}
-use mathlib.Core.Path.{_≡_, refl, sym, ap, subst, _∙_}
-use mathlib.Core.List.{List}
-use native.Mathlib.Omega.{arith}
+use Prim.Native.Nat.{_-_}
 use borrow.Author.Needs.{needs}
-use Rattle.meaning.specs.Tables.{tables}
-use Rattle.meaning.specs.Sound.{sound}
-use Rattle.meaning.specs.Result.{refused}
-use Rattle.meaning.specs.Run.{Call, resultOf}
-use Rattle.meaning.specs.declared.Report.{Report}
-use Rattle.naming.specs.declared.Located.{Located}
 use Rattle.linking.specs.LinkLaws.{no-names, no-old, old-directory, new-nowhere, new-directory, is-sound, in-place, here-directory, few-records, replaced-few, no-fit, accepted}
-use Rattle.linking.specs.declared.Names.{Names}
-use Rattle.linking.specs.declared.Names.the-variants.{Found, Refused}
 use Rattle.linking.proofs.decide_link.Statement.{statement}
 use Rattle.linking.proofs.decide_link.Tie as tie
 

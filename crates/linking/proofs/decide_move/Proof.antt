@@ -1,17 +1,16 @@
 -- Link decides; the old name's record is where its directory has it.
-use Prim.Native.Nat.{ℕ, _≤_, _<_}
-use mathlib.Core.Path.{_≡_, refl, sym, ap, subst, _∙_}
-use mathlib.Core.Logic.{_≢_}
-use mathlib.Core.List.{List, [], _∷_}
+use Prim.Native.Nat.{ℕ}
+use mathlib.Core.Path.{_≡_, sym, ap, _∙_}
+use mathlib.Core.List.{List}
 use native.Mathlib.Omega.{arith}
 use borrow.Author.Needs.{needs}
 use Rattle.meaning.specs.Store.{isDirectory}
-use Rattle.meaning.specs.Tables.{Tables, tables, storeOf}
+use Rattle.meaning.specs.Tables.{tables, storeOf}
 use Rattle.meaning.specs.declared.Report.{Report}
 use Rattle.lookup.specs.Filed.{filed, shelves, directory-seen}
 use Rattle.naming.specs.Located.{InPlace, Recorded}
 use Rattle.linking.specs.Link.{Accepted, Decides, refuses-link, accepts-link}
-use Rattle.linking.specs.LinkRest.{recordFor-seen}
+use Rattle.naming.specs.InStore.{record-seen}
 use Rattle.linking.specs.ActLaws.{is-sound}
 use Rattle.linking.specs.MoveLaws.{from-more, standing-from}
 use Rattle.linking.specs.Move.{DecidesMove}
@@ -46,7 +45,7 @@ module _ (b br fr cr old new : List ℕ) (d : Linking) (decided : Decides (table
 
     movable : (i : ℕ) → Recorded (filed b br fr) old i → DecidesMove (tables b br fr cr) old new (Of p i)
     movable i recorded =
-        record { case = record { accepted = a; taken = recorded .place (a .both .old-name .at .name) (a .both .old-name .at .is) ∙ recordFor-seen b br fr cr (a .both .old-name .at .name) } }
+        record { case = record { accepted = a; taken = recorded .place (a .both .old-name .at .name) (a .both .old-name .at .is) ∙ record-seen b br fr cr (a .both .old-name .at .name) } }
 
 decide-link-requires : tie.Need-decide-link-requires
 decide-link-requires c κs = search needs

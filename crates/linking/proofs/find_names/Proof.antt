@@ -1,27 +1,25 @@
 -- The old name is judged first, and the new one where that is well written; then both are located.
-use Prim.Native.Nat.{ℕ, _+_, _-_, _*_, _/_, _≤_, _<_}
-use mathlib.Core.Path.{_≡_, refl, sym, ap, subst, _∙_}
-use mathlib.Core.List.{List, [], _∷_}
-use mathlib.Core.Bool.{true, not}
+use Prim.Native.Nat.{ℕ, _-_}
+use mathlib.Core.Path.{_≡_, sym, _∙_}
+use mathlib.Core.List.{List}
 use borrow.Author.Needs.{needs}
 use Rattle.meaning.specs.Name.{syllables}
 use Rattle.meaning.specs.Tables.{tables}
-use Rattle.meaning.specs.Sound.{sound}
-use Rattle.meaning.specs.Result.{Result, unless, withSyllables, onName}
+use Rattle.meaning.specs.Result.{unless, withSyllables, onName}
 use Rattle.meaning.specs.declared.Report.{Report}
 use Rattle.meaning.specs.declared.Report.the-variants.{BadName}
 use Rattle.names.specs.FormLaws.{Counted, form-counted, form-none}
 use Rattle.names.specs.Syllables.{formOf}
 use Rattle.names.specs.declared.NameForm.{NameForm}
 use Rattle.names.specs.declared.NameForm.the-variants as Form
-use Rattle.lookup.specs.Filed.{filed, Shelves}
+use Rattle.lookup.specs.Filed.{filed}
 use Rattle.naming.specs.Judged.{OnName, onNameOf, Spelled, refuses, spelled}
 use Rattle.naming.specs.Located.{Locates}
 use Rattle.naming.specs.At.{stands-at, located-shelves, located-counted, located-at}
 use Rattle.naming.specs.declared.Judged.{Judged}
 use Rattle.naming.specs.declared.Judged.the-variants as J
 use Rattle.naming.specs.declared.Located.{Located}
-use Rattle.linking.specs.Names.{onNames, Both, FindsNames}
+use Rattle.linking.specs.Names.{onNames, FindsNames}
 use Rattle.linking.specs.declared.Names.the-variants.{Found, Refused}
 use Rattle.linking.proofs.find_names.Statement.{statement}
 use Rattle.linking.proofs.find_names.Tie as tie

@@ -1,7 +1,7 @@
 -- What is decided is done: a refusal leaves the tables, and else the plan's changes are made.
 use Prim.Native.Nat.{ℕ}
-use mathlib.Core.Path.{_≡_, refl, sym, ap, subst, _∙_}
-use mathlib.Core.List.{List, [], _∷_}
+use mathlib.Core.Path.{_≡_}
+use mathlib.Core.List.{List, []}
 use borrow.Author.Needs.{needs}
 use Rattle.meaning.specs.Tables.{Tables, tables, storeOf, putAll}
 use Rattle.meaning.specs.Run.{Call, Promise, numberOf}

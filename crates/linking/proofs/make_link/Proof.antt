@@ -1,15 +1,14 @@
 -- The record given is the first change; a file that is let go is the second, on the tables that the first leaves.
-use Prim.Native.Nat.{ℕ, _≤_, _<_}
-use mathlib.Core.Path.{_≡_, refl, sym, ap, subst, _∙_}
-use mathlib.Core.List.{List, [], _∷_}
-use mathlib.Core.Bool.{Bool, true}
+use Prim.Native.Nat.{ℕ}
+use mathlib.Core.Path.{_≡_, sym, ap, _∙_}
+use mathlib.Core.List.{List, _∷_}
+use mathlib.Core.Bool.{Bool}
 use borrow.Author.Needs.{needs}
 use Rattle.meaning.specs.Store.{file}
-use Rattle.meaning.specs.Name.{blankRecord}
 use Rattle.meaning.specs.Tables.{tables, storeOf, put, putAll}
 use Rattle.meaning.specs.NameCalls.{rewritten}
 use Rattle.recording.specs.Recording.{recordOf}
-use Rattle.linking.specs.Act.{goes, lastGoes, freed, linkChanges, dropChanges}
+use Rattle.linking.specs.Act.{goes, freed, linkChanges}
 use Rattle.linking.specs.ThenGo.{may-go, then-go}
 use Rattle.linking.specs.declared.Plan.{Plan}
 use Rattle.linking.proofs.make_link.Statement.{statement}

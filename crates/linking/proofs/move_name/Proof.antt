@@ -1,7 +1,7 @@
 -- What is decided is done: a refusal leaves the tables, and else the changes of link are made, and then those of taking the old name.
 use Prim.Native.Nat.{ℕ}
-use mathlib.Core.Path.{_≡_, refl, sym, ap, subst, _∙_}
-use mathlib.Core.List.{List, [], _∷_, _++_}
+use mathlib.Core.Path.{_≡_}
+use mathlib.Core.List.{List, [], _++_}
 use borrow.Author.Needs.{needs}
 use Rattle.meaning.specs.Store.{afterAll}
 use Rattle.meaning.specs.Tables.{Tables, tables, storeOf, putAll}

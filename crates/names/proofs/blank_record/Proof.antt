@@ -5,8 +5,8 @@ use mathlib.Core.List.{List}
 use lib.ListN.{length, set, take, getD-replicate}
 use lib.Seq.{sets}
 use Rattle.meaning.specs.Name.{blankRecord}
-use Rattle.names.specs.ByteLaws.{laid-next, laid-all}
 use borrow.Author.Needs.{needs}
+use Rattle.records.specs.LoopLaws.{laid-next, laid-all}
 use Rattle.names.proofs.blank_record.Statement.{statement}
 use Rattle.names.proofs.blank_record.Tie as tie
 

@@ -9,7 +9,7 @@ use lib.Dec.{eqb}
 use lib.ListN.{getD}
 use Rattle.records.specs.Rows.{every}
 use Rattle.records.specs.Numbers.{one, zeros}
-use Rattle.names.specs.ByteLaws.{every-not, every-next}
+use Rattle.records.specs.LoopLaws.{every-fail, every-step}
 use borrow.Author.Needs.{needs}
 use Rattle.names.proofs.is_blank.Statement.{statement}
 use Rattle.names.proofs.is_blank.Tie as tie
@@ -21,11 +21,11 @@ module _ (table : List ℕ) (at : ℕ) where
 
   not-zero : (i : ℕ) → i < 16 → (getD table (at + i) 0 ≡ 0 → ⊥) → false ≡ zeros table at 16
   unfolding zeros one
-  not-zero i h d = sym (every-not 16 (λ i. eqb (one table (at + i)) 0) i h (ne-eqb (getD table (at + i) 0) 0 d))
+  not-zero i h d = sym (every-fail (λ i. eqb (one table (at + i)) 0) i 16 h (ne-eqb (getD table (at + i) 0) 0 d))
 
   one-more : (i : ℕ) → zeros table at i ≡ true → getD table (at + i) 0 ≡ 0 → zeros table at (i + 1) ≡ true
   unfolding zeros one
-  one-more i e z = every-next i (λ i. eqb (one table (at + i)) 0) e (eq-eqb (getD table (at + i) 0) 0 z)
+  one-more i e z = every-step (λ i. eqb (one table (at + i)) 0) i e (eq-eqb (getD table (at + i) 0) 0 z)
 
   all-zero : (i : ℕ) → i ≤ 16 → 16 ≤ i → zeros table at i ≡ true → true ≡ zeros table at 16
   all-zero i l h e = let z : i ≡ 16 = omega arith in sym (rw z at e)

@@ -8,9 +8,9 @@ use borrow.Author.Tests.{ne-eqb}
 use lib.ListN.{length, getD}
 use Rattle.records.specs.Rows.{every}
 use Rattle.records.specs.Numbers.{one}
+use Rattle.records.specs.LoopLaws.{every-step}
 use Rattle.meaning.specs.Name.{isSyllable}
 use Rattle.names.specs.Syllables.{part}
-use Rattle.names.specs.ByteLaws.{every-next}
 use Rattle.names.specs.SyllableTests.{isPlain, syllable-none, syllable-long, syllable-not, syllable-yes}
 use Rattle.names.specs.SyllableLaws.{length-part, one-part}
 use borrow.Author.Needs.{needs}
@@ -43,7 +43,7 @@ module _ (name : List ℕ) (from to : ℕ) (l : from ≤ to) (h : to ≤ length 
         every (i + 1 - from) (isPlain (part name from to)) ≡ true
     one-more e z s =
         let q : i + 1 - from ≡ i - from + 1 = omega arith in
-        rw q (every-next (i - from) (isPlain (part name from to)) e (rw (byte, ne-eqb (getD name i 0) 0 z, ne-eqb (getD name i 0) 47 s)))
+        rw q (every-step (isPlain (part name from to)) (i - from) e (rw (byte, ne-eqb (getD name i 0) 0 z, ne-eqb (getD name i 0) 47 s)))
 
   passes : (i : ℕ) → 1 ≤ to - from → to - from ≤ 14 → i ≤ to → to ≤ i → every (i - from) (isPlain (part name from to)) ≡ true → true ≡ isSyllable (part name from to)
   passes i some few m n e =

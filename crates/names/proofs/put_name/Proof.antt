@@ -6,9 +6,9 @@ use native.Mathlib.Omega.{arith}
 use lib.ListN.{length, set, take}
 use lib.Seq.{sets}
 use Rattle.records.specs.Numbers.{one}
+use Rattle.records.specs.LoopLaws.{laid-next, laid-all}
 use Rattle.names.specs.Syllables.{part}
 use Rattle.names.specs.SyllableLaws.{length-part}
-use Rattle.names.specs.ByteLaws.{laid-next, laid-all}
 use Rattle.names.specs.RecordNames.{padded, length-padded, padded-one}
 use borrow.Author.Needs.{needs}
 use Rattle.names.proofs.put_name.Statement.{statement}

@@ -1,7 +1,7 @@
 -- What is decided is done: a refusal leaves the tables; an existing file is emptied, a new one gets its name's record and its own;
 -- then the channel's record is put.
-use Prim.Native.Nat.{ℕ, _+_, _-_, _*_, _/_, _≤_, _<_}
-use mathlib.Core.Path.{_≡_, refl, sym, ap, subst, _∙_}
+use Prim.Native.Nat.{ℕ, _-_, _≤_, _<_}
+use mathlib.Core.Path.{_≡_, sym, ap, subst, _∙_}
 use mathlib.Core.List.{List, [], _∷_}
 use mathlib.Core.Bool.{true}
 use borrow.Author.Needs.{needs}

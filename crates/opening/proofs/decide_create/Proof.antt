@@ -1,6 +1,6 @@
 -- Each return is a case of what create gives on a well-written name, by the tests that led there.
 use Prim.Native.Nat.{ℕ, _≤_}
-use mathlib.Core.Path.{_≡_, refl, sym, _∙_}
+use mathlib.Core.Path.{_≡_}
 use mathlib.Core.Logic.{_≢_}
 use mathlib.Core.List.{List}
 use mathlib.Core.Bool.{Bool, true, false}
@@ -8,7 +8,6 @@ use native.Mathlib.Omega.{arith}
 use borrow.Author.Needs.{needs}
 use Rattle.meaning.specs.Store.{isDirectory}
 use Rattle.meaning.specs.Tables.{Tables, tables, channelCount}
-use Rattle.meaning.specs.declared.Report.{Report}
 use Rattle.meaning.specs.declared.Report.the-variants.{IsDirectory, NoFreeCids}
 use Rattle.tables.specs.Searches.{channelWith}
 use Rattle.layout.specs.Layout.{sound-layout}
@@ -21,7 +20,7 @@ use Rattle.naming.specs.declared.Judged.{Judged}
 use Rattle.naming.specs.declared.Judged.the-variants.{Syllables}
 use Rattle.naming.specs.declared.Located.{Located}
 use Rattle.opening.specs.Create.{NewName, Created}
-use Rattle.opening.specs.CreateLaws.{channel-within}
+use Rattle.placing.specs.Free.{channel-within}
 use Rattle.opening.specs.CreateCases.{create-refusal, old-directory, old-no-channel, old-emptied}
 use Rattle.opening.specs.declared.Creating.the-variants.{Old, No}
 use Rattle.opening.proofs.decide_create.Statement.{statement}

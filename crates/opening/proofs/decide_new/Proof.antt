@@ -1,14 +1,13 @@
 -- Each return is a case of what create gives on a new name, by the tests that led there.
-use Prim.Native.Nat.{ℕ, _+_, _-_, _*_, _/_, _≤_, _<_, max}
-use mathlib.Core.Path.{_≡_, refl, sym, ap, subst, _∙_}
+use Prim.Native.Nat.{ℕ, _+_, _-_, _*_, _≤_, max}
+use mathlib.Core.Path.{_≡_, sym, subst, _∙_}
 use mathlib.Core.Logic.{_≢_}
-use mathlib.Core.List.{List, [], _∷_}
+use mathlib.Core.List.{List, []}
 use mathlib.Core.Bool.{Bool, true, false, not}
 use native.Mathlib.Omega.{arith}
 use borrow.Author.Needs.{needs}
 use borrow.Author.Tests.{not-true, not-false}
-use lib.ListN.{length}
-use Rattle.meaning.specs.Store.{Store, isDirectory}
+use Rattle.meaning.specs.Store.{isDirectory}
 use Rattle.meaning.specs.Tables.{Tables, tables, storeOf, fileCount, channelCount, fileLength}
 use Rattle.meaning.specs.declared.Report.{Report}
 use Rattle.meaning.specs.declared.Report.the-variants.{NoSuchName, NoFreeCids, NoFreeFids}
@@ -16,7 +15,7 @@ use Rattle.meaning.specs.NameCalls.{recordFor}
 use Rattle.tables.specs.Searches.{channelWith, fileWith, freeBlockCount}
 use Rattle.layout.specs.Layout.{sound-layout}
 use Rattle.soundness.specs.Seen.{filesStore, isDirectory-seen}
-use Rattle.lookup.specs.Filed.{filed, shelves, directory-seen}
+use Rattle.lookup.specs.Filed.{filed, shelves}
 use Rattle.naming.specs.Located.{InPlace, Recorded}
 use Rattle.naming.specs.At.{At, stands-at}
 use Rattle.naming.specs.InStore.{found-record}
@@ -24,8 +23,9 @@ use Rattle.naming.specs.declared.Located.{Located}
 use Rattle.recording.specs.Fit.{FitsIn}
 use Rattle.recording.specs.declared.Fit.{Fit}
 use Rattle.recording.specs.declared.Fit.the-variants as F
+use Rattle.placing.specs.Free.{channel-within, file-within}
+use Rattle.placing.specs.NewName.{few-records, deep}
 use Rattle.opening.specs.Create.{NewName, Created}
-use Rattle.opening.specs.CreateLaws.{channel-within, file-within, few-records, deep}
 use Rattle.opening.specs.CreateCases.{new-nowhere, new-no-channel, new-no-file, new-refused, new-made, new-here}
 use Rattle.opening.specs.declared.Creating.the-variants.{New, No}
 use Rattle.opening.proofs.decide_new.Statement.{statement}

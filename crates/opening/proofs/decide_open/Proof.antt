@@ -1,26 +1,23 @@
 -- Each return is a case of what open gives on a well-written name, by the tests that led there.
-use Prim.Native.Nat.{ℕ, _+_, _-_, _*_, _/_, _≤_, _<_}
-use mathlib.Core.Path.{_≡_, refl, sym, ap, subst, _∙_}
+use Prim.Native.Nat.{ℕ, _-_, _≤_}
+use mathlib.Core.Path.{_≡_, refl, sym, _∙_}
 use mathlib.Core.Logic.{_≢_}
 use mathlib.Core.List.{List, [], _∷_}
 use native.Mathlib.Omega.{arith}
 use borrow.Author.Needs.{needs}
-use lib.ListN.{length}
-use mathlib.Core.Bool.{true, false, not}
-use lib.Dec.{ltb}
 use Rattle.records.specs.RowLaws.{lowest-within}
 use borrow.Author.Tests.{lt-ltb, le-ltb}
 use Rattle.meaning.specs.Store.{channel, channelTo, named, freeChannel}
 use Rattle.meaning.specs.Tables.{Tables, tables, storeOf, channelCount}
 use Rattle.meaning.specs.NameCalls.{open′}
-use Rattle.meaning.specs.Result.{Result, refused, done, unless, missing, allOpen}
+use Rattle.meaning.specs.Result.{Result, done, unless, missing, allOpen}
 use Rattle.meaning.specs.Run.{Call, resultOf, meaning, accepts}
 use Rattle.meaning.specs.declared.Report.{Report}
 use Rattle.meaning.specs.declared.Report.the-variants.{NoSuchName, NoFreeCids}
 use Rattle.tables.specs.Searches.{channelWith, isTo}
 use Rattle.tables.specs.StoreLaws.{free-channel}
 use Rattle.naming.specs.Judged.{OnName, onNameOf, refuses}
-use Rattle.layout.specs.Layout.{Layout, sound-layout}
+use Rattle.layout.specs.Layout.{sound-layout}
 use Rattle.lookup.specs.Filed.{filed}
 use Rattle.naming.specs.Located.{Locates}
 use Rattle.naming.specs.At.{At, located-shelves, located-counted, located-at, follows, is-missing, not-missing}

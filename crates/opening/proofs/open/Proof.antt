@@ -1,11 +1,8 @@
 -- What is decided is done: a refusal leaves the tables, and else the channel's record is put.
-use Prim.Native.Nat.{ℕ, _+_, _-_, _*_, _/_, _≤_, _<_}
-use mathlib.Core.Path.{_≡_, refl, sym, ap, subst, _∙_}
-use mathlib.Core.Logic.{_≢_}
+use Prim.Native.Nat.{ℕ, _-_, _<_}
+use mathlib.Core.Path.{_≡_, sym, ap, subst, _∙_}
 use mathlib.Core.List.{List, [], _∷_}
-use native.Mathlib.Omega.{arith}
 use borrow.Author.Needs.{needs}
-use lib.ListN.{length}
 use Rattle.records.specs.Numbers.{withRecord}
 use Rattle.meaning.specs.Tables.{Tables, tables, put, putAll, channelCount, channelRecord}
 use Rattle.meaning.specs.Run.{Call, Promise, refusal, numbers}

@@ -7,9 +7,9 @@ use native.Mathlib.Omega.{arith}
 use borrow.Author.Tests.{ne-eqb}
 use lib.Dec.{leb, eqb}
 use Rattle.records.specs.Rows.{agree}
-use Rattle.records.specs.RowLaws.{length-listOf}
 use Rattle.records.specs.Numbers.{one, four}
 use Rattle.records.specs.Tests.{and-false, same-or-not}
+use Rattle.records.specs.ListLaws.{length-listOf}
 use Rattle.meaning.specs.File.{longest}
 use Rattle.meaning.specs.Tables.{tables, storeOf, fileOf, byteOf, kindAt, depthAt, lengthAt}
 use Rattle.meaning.specs.Sound.{asFree, asOrdinary, asDirectory, fileSound}

@@ -13,8 +13,8 @@ use Rattle.records.specs.Rows.{pick, listOf}
 use Rattle.records.specs.Numbers.{one, twoBytes, withRecord}
 use Rattle.records.specs.NumberLaws.{two-cong}
 use Rattle.records.specs.Tests.{same-or-not, lt-or-ge}
-use Rattle.records.specs.RowLaws.{length-listOf, getD-listOf, listOf-cong}
 use Rattle.records.specs.RecordLaws.{length-withRecord, byte-written, byte-kept}
+use Rattle.records.specs.ListLaws.{length-listOf, getD-listOf, listOf-cong}
 use Rattle.meaning.specs.Tables.{blockCount, owner, place, blockRecord, released}
 use Rattle.tables.specs.ReadBack.{length-blockRecord}
 use Rattle.layout.specs.Releasing.{isGone}
