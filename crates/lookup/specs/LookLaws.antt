@@ -18,9 +18,9 @@ use Rattle.soundness.specs.Use.{Used, directory-used}
 use Rattle.soundness.specs.Seen.{filesStore}
 use Rattle.tables.specs.StoreLaws.{file-length}
 use Rattle.names.specs.RecordNames.{recordFrom}
-use Rattle.names.specs.Syllables.{part, syllableEnd, syllablesFrom, Reaches}
+use Rattle.names.specs.Syllables.{part, syllablesFrom, Reaches}
 use Rattle.names.specs.SyllableLaws.{row-next, reach-inside, reach-next, end-low, end-within}
-use Rattle.paths.specs.Taking.{behind}
+use Rattle.paths.specs.Taking.{syllableEnd, behind}
 use Rattle.paths.specs.TakingLaws.{behind-slash}
 use Rattle.directories.specs.Places.{recordPlace, entry-there, blank-there}
 use Rattle.directories.specs.Find.{Lies, namedAt, blankAt, placeLowest}

@@ -1,9 +1,8 @@
 -- How a walk from the left finds a name's form.
-use Prim.Native.Nat.{ℕ, suc, _+_, _-_, _≤_, _<_, min}
-use mathlib.Core.Path.{_≡_, refl, sym, _∙_}
-use mathlib.Core.Logic.{_⊎_, inl, inr, ⊎-elim}
+use Prim.Native.Nat.{ℕ, suc, _+_, _≤_, _<_}
+use mathlib.Core.Path.{_≡_, refl}
 use mathlib.Core.List.{List, [], _∷_}
-use mathlib.Core.Bool.{Bool, true, false, _&&_, true≢false}
+use mathlib.Core.Bool.{Bool, true, false, _&&_}
 use mathlib.Core.Option.{Option, none, some}
 use native.Mathlib.Omega.{arith}
 use lib.Dec.{leb}
@@ -11,13 +10,11 @@ use lib.ListN.{length, drop, getD}
 use borrow.Author.Tests.{le-leb, lt-leb, eq-eqb, ne-eqb}
 use Rattle.records.specs.Rows.{pick, every}
 use Rattle.records.specs.Numbers.{one}
-use Rattle.records.specs.RowLaws.{Found, from-found, every-front}
-use Rattle.records.specs.Tests.{and-false, lt-or-ge}
+use Rattle.records.specs.RowLaws.{every-front}
+use Rattle.records.specs.Tests.{and-false}
 use Rattle.meaning.specs.Name.{slash, mostSyllables, isSyllable, split, areSyllables, syllables}
 use Rattle.names.specs.declared.NameForm.the-variants.{Syllables, Bad}
-use Rattle.names.specs.Syllables.{part, isSlash, syllableEnd, nearEnd, formOf, formWith}
-use Rattle.names.specs.SyllableTests.{syllable-long}
-use Rattle.names.specs.SyllableLaws.{length-part, ends, end-low, end-within}
+use Rattle.names.specs.Syllables.{formOf, formWith}
 
 -- ---- k syllables and the pieces that follow
 
@@ -75,61 +72,6 @@ form-start (b ∷ c ∷ bytes) h e =
     go : (t : Bool) (s : List (List ℕ)) → formOf (pick t (some s) none) ≡ pick t (Syllables (length s)) Bad
     go true s = refl
     go false s = refl
-
--- ---- the end, where no more than 15 bytes are looked at
-
-module _ (bytes : List ℕ) (at : ℕ) (inside : at ≤ length bytes) where
-  near : Found at (min (length bytes - at) 15) (isSlash bytes) (nearEnd bytes at)
-  unfolding nearEnd
-  near = from-found at (min (length bytes - at) 15) (isSlash bytes)
-
-  pub near-low : at ≤ nearEnd bytes at
-  near-low = near .low
-
-  pub near-within : nearEnd bytes at ≤ length bytes
-  near-within = omega (arith, near .high)
-
-  never : {A : Type 0} (i : ℕ) → isSlash bytes i ≡ true → isSlash bytes i ≡ false → A
-  never i e d = absurd (true≢false (sym e ∙ d))
-
-  -- it is the end, or both are too far for a syllable
-  pub near-or-far : (nearEnd bytes at ≡ syllableEnd bytes at) ⊎ ((nearEnd bytes at ≡ at + 15) × (at + 15 ≤ syllableEnd bytes at))
-  near-or-far =
-      let n = nearEnd bytes at in
-      let e = syllableEnd bytes at in
-      let far : e ≤ length bytes = end-within bytes at inside in
-      let from : at ≤ e = end-low bytes at in
-      let high : n ≤ at + min (length bytes - at) 15 = near .high in
-      let below : n ≤ e =
-      ⊎-elim (λ (h : e < n). never e (ends bytes at .hit (omega arith)) (near .misses e from h)) (λ h. h) (lt-or-ge e n) in
-      ⊎-elim
-      (λ (h : n < e).
-      let stops : at + min (length bytes - at) 15 ≤ n =
-      ⊎-elim (λ s. never n (near .hit s) (ends bytes at .misses n (near .low) h)) (λ s. s) (lt-or-ge n (at + min (length bytes - at) 15)) in
-      inr (omega arith, omega arith))
-      (λ (h : e ≤ n). inl (omega arith))
-      (lt-or-ge n e)
-
-  -- a syllable that ends there ends there for good, and where there is none there is none at all
-  pub near-syllable : isSyllable (part bytes at (nearEnd bytes at)) ≡ true → nearEnd bytes at ≡ syllableEnd bytes at
-  near-syllable t =
-      ⊎-elim
-      (λ s. s)
-      (λ (f : (nearEnd bytes at ≡ at + 15) × (at + 15 ≤ syllableEnd bytes at)).
-      let far : syllableEnd bytes at ≤ length bytes = end-within bytes at inside in
-      let n : length (part bytes at (nearEnd bytes at)) ≡ nearEnd bytes at - at = length-part bytes at (nearEnd bytes at) (omega arith) (omega arith) in
-      absurd (true≢false (sym t ∙ syllable-long (part bytes at (nearEnd bytes at)) (omega arith))))
-      near-or-far
-
-  pub near-none : isSyllable (part bytes at (nearEnd bytes at)) ≡ false → isSyllable (part bytes at (syllableEnd bytes at)) ≡ false
-  near-none t =
-      ⊎-elim
-      (λ (s : nearEnd bytes at ≡ syllableEnd bytes at). rw (← s) t)
-      (λ (f : (nearEnd bytes at ≡ at + 15) × (at + 15 ≤ syllableEnd bytes at)).
-      let far : syllableEnd bytes at ≤ length bytes = end-within bytes at inside in
-      let n : length (part bytes at (syllableEnd bytes at)) ≡ syllableEnd bytes at - at = length-part bytes at (syllableEnd bytes at) (omega arith) far in
-      syllable-long (part bytes at (syllableEnd bytes at)) (omega arith))
-      near-or-far
 
 -- ---- what a form tells of the name
 

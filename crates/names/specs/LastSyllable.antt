@@ -3,6 +3,7 @@ use Prim.Native.Nat.{ℕ, _+_, _-_, _≤_, _<_}
 use mathlib.Core.Path.{_≡_, ap, sym, _∙_}
 use mathlib.Core.Logic.{⊎-elim}
 use mathlib.Core.List.{List, _∷_}
+use mathlib.Core.Bool.{true}
 use mathlib.Core.Option.{some}
 use native.Mathlib.Omega.{arith}
 use lib.ListN.{length, take, drop, length-drop}
@@ -14,9 +15,21 @@ use Rattle.records.specs.Tests.{lt-or-ge}
 use Rattle.records.specs.RowLaws.{lowest-is}
 use Rattle.meaning.specs.Name.{slash, split, syllables}
 use Rattle.meaning.specs.Store.{front, last}
-use Rattle.names.specs.Syllables.{part, isSlash, syllableEnd, syllablesFrom, placeOf, lastStart}
+use Rattle.paths.specs.Taking.{isSlash, syllableEnd}
+use Rattle.names.specs.Syllables.{part, syllablesFrom, placeOf, lastStart}
 use Rattle.names.specs.SyllableLaws.{ends, end-within, split-from, split-some, rest-slash}
 use Rattle.names.specs.ReadLaws.{Placed, at-place, read, syllable-is}
+
+-- a place behind a slash, or the start, from which no slash follows
+pub start-is : (bytes : List ℕ) (at : ℕ) → at ≤ length bytes → (0 < at → isSlash bytes (at - 1) ≡ true) → syllableEnd bytes at ≡ length bytes → lastStart bytes ≡ at
+unfolding lastStart
+start-is bytes at within behind no-more =
+    let size = length bytes in
+    let is-last : lowest size (λ i. isSlash bytes (size - 1 - i)) ≡ size - at =
+    lowest-is size (λ i. isSlash bytes (size - 1 - i)) (size - at) (omega arith)
+    (λ i (h : i < size - at). ends bytes at .misses (size - 1 - i) (omega arith) (rw no-more (omega arith)))
+    (λ h. let z : size - 1 - (size - at) ≡ at - 1 = omega arith in rw z (behind (omega arith))) in
+    omega arith
 
 module _ (bytes : List ℕ) (name : List (List ℕ)) (is : syllables bytes ≡ some name) (some-left : 0 < length name) where
   final : ℕ
@@ -40,16 +53,8 @@ module _ (bytes : List ℕ) (name : List (List ℕ)) (is : syllables bytes ≡ s
       (lt-or-ge e (length bytes))
 
   pub last-start : lastStart bytes ≡ placeOf bytes (length name - 1)
-  unfolding lastStart final
-  last-start =
-      let w = final-at .within in
-      let low = final-at .low in
-      let size = length bytes in
-      let is-last : lowest size (λ i. isSlash bytes (size - 1 - i)) ≡ size - final =
-      lowest-is size (λ i. isSlash bytes (size - 1 - i)) (size - final) (omega arith)
-      (λ i (h : i < size - final). ends bytes final .misses (size - 1 - i) (omega arith) (rw final-end (omega arith)))
-      (λ h. let z : size - 1 - (size - final) ≡ final - 1 = omega arith in rw z (eq-eqb (one bytes (final - 1)) slash (final-at .behind))) in
-      omega arith
+  unfolding final
+  last-start = start-is bytes final (final-at .within) (λ h. eq-eqb (one bytes (final - 1)) slash (final-at .behind)) final-end
 
   pub last-within : lastStart bytes ≤ length bytes
   last-within = rw last-start (final-at .within)

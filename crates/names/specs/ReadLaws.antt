@@ -14,7 +14,8 @@ use Rattle.records.specs.Numbers.{one}
 use Rattle.records.specs.RowLaws.{every-all}
 use Rattle.records.specs.Tests.{and-left, and-right}
 use Rattle.meaning.specs.Name.{slash, mostSyllables, isSyllable, split, areSyllables, syllables}
-use Rattle.names.specs.Syllables.{part, isSlash, syllableEnd, syllablesFrom, Reaches, placeOf}
+use Rattle.paths.specs.Taking.{isSlash, syllableEnd}
+use Rattle.names.specs.Syllables.{part, syllablesFrom, Reaches, placeOf}
 use Rattle.names.specs.SyllableLaws.{ends, split-from, split-some, ends-at-slash, split-next, row-is, reach-is}
 
 -- ---- what the definition says of a well-written name

@@ -15,7 +15,8 @@ use Rattle.records.specs.RowLaws.{Found, from-found}
 use Rattle.records.specs.Tests.{lt-or-ge}
 use Rattle.records.specs.ListLaws.{drop-none, drop-one}
 use Rattle.meaning.specs.Name.{isSyllable, before, split}
-use Rattle.names.specs.Syllables.{part, isSlash, syllableEnd, restFrom, syllablesFrom, Reaches}
+use Rattle.paths.specs.Taking.{isSlash, syllableEnd}
+use Rattle.names.specs.Syllables.{part, restFrom, syllablesFrom, Reaches}
 
 -- ---- parts
 

@@ -1,32 +1,20 @@
 -- A name taken from the left, one syllable at a time (01, "Names").
-use Prim.Native.Nat.{ℕ, zero, suc, _+_, _-_, _≤_, min}
+use Prim.Native.Nat.{ℕ, zero, suc, _+_, _-_, _≤_}
 use mathlib.Core.Path.{_≡_}
 use mathlib.Core.List.{List, [], _∷_}
-use mathlib.Core.Bool.{Bool, true, _&&_}
+use mathlib.Core.Bool.{true, _&&_}
 use mathlib.Core.Option.{Option, none, some}
 use lib.ListN.{length, take, drop, getD}
-use lib.Dec.{leb, ltb, eqb}
-use Rattle.records.specs.Rows.{pick, lowest, lowestFrom, every}
-use Rattle.records.specs.Numbers.{one}
-use Rattle.meaning.specs.Name.{slash, mostSyllables, isSyllable, split}
+use lib.Dec.{leb, ltb}
+use Rattle.records.specs.Rows.{pick, lowest, every}
+use Rattle.meaning.specs.Name.{mostSyllables, isSyllable, split}
+use Rattle.paths.specs.Taking.{isSlash, syllableEnd}
 use Rattle.names.specs.declared.NameForm.{NameForm}
 use Rattle.names.specs.declared.NameForm.the-variants.{Syllables, Bad}
 
 -- the bytes from one place up to another
 unfoldable pub part : List ℕ → ℕ → ℕ → List ℕ
 part bytes from to = take (to - from) (drop from bytes)
-
--- a slash stands at place i
-abbrev pub isSlash : List ℕ → ℕ → Bool
-isSlash bytes i = eqb (one bytes i) slash
-
--- where the syllable that starts at a place ends: at the first slash from there on, or at the end of the name
-unfoldable pub syllableEnd : List ℕ → ℕ → ℕ
-syllableEnd bytes at = lowestFrom at (length bytes - at) (isSlash bytes)
-
--- the same, where no more than 15 bytes are looked at
-unfoldable pub nearEnd : List ℕ → ℕ → ℕ
-nearEnd bytes at = lowestFrom at (min (length bytes - at) 15) (isSlash bytes)
 
 -- what stands between the slashes behind a syllable's end: nothing where that is the name's end
 unfoldable pub restFrom : List ℕ → ℕ → List (List ℕ)

@@ -1,52 +1,19 @@
 // Names: their syllables, and the directory records that hold them (01, "Names").
 use meaning::FileNo;
+use paths::take_syllable;
 ghost use mathlib.Core.Path.{_≡_};
 ghost use Prim.Native.Nat.{_+_, _-_, _≤_, _<_};
 ghost use lib.ListN.{length};
 ghost use lib.Seq.{sets};
-ghost use Rattle.records.specs.Rows.{lowestFrom};
 ghost use Rattle.records.specs.Numbers.{one, twoBytes, zeros};
 ghost use Rattle.meaning.specs.Name.{isSyllable, syllables, same, entry, entryIn, written, blankRecord};
-ghost use Rattle.names.specs.Syllables.{part, isSlash, syllableEnd, nearEnd, lastStart, formOf};
+ghost use Rattle.names.specs.Syllables.{part, lastStart, formOf};
 ghost use Rattle.names.specs.RecordNames.{recordFrom, padded};
 
 // What a row of bytes is as a name: how many syllables it has, or that it is not written as a name.
 pub enum NameForm {
     Syllables(usize),
     Bad,
-}
-
-// The first slash from one place up to another, or the place where the search ends.
-fn first_slash(name: &[u8], from: usize, to: usize) -> usize
-    requires { ⌜ to ≤ length (now name) ⌝ }
-    ensures { λ r. ⌜ r ≡ lowestFrom from (to - from) (isSlash (now (name .entry))) ⌝ }
-{
-    let mut i = from;
-    while i < to {
-        if name[i] == b'/' {
-            return i;
-        }
-        i += 1;
-    }
-    i
-}
-
-// Where the syllable that starts at a place ends.
-pub fn syllable_end(name: &[u8], at: usize) -> usize
-    ensures { λ r. ⌜ r ≡ syllableEnd (now (name .entry)) at ⌝ }
-{
-    first_slash(name, at, name.len())
-}
-
-// The same, where no more than 15 bytes are looked at: a syllable is shorter.
-fn near_end(name: &[u8], at: usize) -> usize
-    requires { ⌜ at ≤ length (now name) ⌝ }
-    ensures { λ r. ⌜ r ≡ nearEnd (now (name .entry)) at ⌝ }
-{
-    if name.len() - at < 15 {
-        return first_slash(name, at, name.len());
-    }
-    first_slash(name, at, at + 15)
 }
 
 // Whether the part of a name from one place up to another is a syllable.
@@ -82,7 +49,8 @@ fn count_syllables(name: &[u8]) -> NameForm
     let mut at = 1;
     let mut k = 0;
     while k < 8 {
-        let end = near_end(name, at);
+        let taken = take_syllable(name, at);
+        let end = taken.end;
         if !is_syllable(name, at, end) {
             return NameForm::Bad;
         }
@@ -90,7 +58,7 @@ fn count_syllables(name: &[u8]) -> NameForm
         if end == name.len() {
             return NameForm::Syllables(k);
         }
-        at = end + 1;
+        at = taken.next;
     }
     NameForm::Bad
 }
@@ -115,15 +83,15 @@ pub fn name_form(name: &[u8]) -> NameForm
 pub fn last_start(name: &[u8]) -> usize
     ensures { λ r. ⌜ r ≡ lastStart (now (name .entry)) ⌝ }
 {
-    let n = name.len();
-    let mut i = 0;
-    while i < n {
-        if name[n - 1 - i] == b'/' {
-            return n - i;
+    let mut at = 0;
+    while at < name.len() {
+        let taken = take_syllable(name, at);
+        if taken.end == name.len() {
+            return at;
         }
-        i += 1;
+        at = taken.next;
     }
-    0
+    at
 }
 
 // Whether the record that starts at a place of a table has a part of a name as its name.

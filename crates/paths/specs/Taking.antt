@@ -1,14 +1,24 @@
 -- A name that is read from the left (01, "Names"): the next syllable, and what is left behind it.
-use Prim.Native.Nat.{ℕ, _+_}
+use Prim.Native.Nat.{ℕ, _+_, _-_}
 use mathlib.Core.List.{List}
+use mathlib.Core.Bool.{Bool}
 use lib.ListN.{length}
-use lib.Dec.{ltb}
+use lib.Dec.{ltb, eqb}
 use denote.Ref.{RefT, now}
-use Rattle.records.specs.Rows.{pick}
-use Rattle.names.specs.Syllables.{syllableEnd}
+use Rattle.records.specs.Rows.{pick, lowestFrom}
+use Rattle.records.specs.Numbers.{one}
+use Rattle.meaning.specs.Name.{slash}
 use Rattle.paths.specs.declared.PathReader.{PathReader}
 use Rattle.paths.specs.declared.Taken.{Taken}
 use Rattle.paths.specs.declared.Taken.the-variants.{Syllable, Nothing}
+
+-- a slash stands at place i
+abbrev pub isSlash : List ℕ → ℕ → Bool
+isSlash name i = eqb (one name i) slash
+
+-- where the syllable that starts at a place ends: at the first slash from there on, or at the end of the name
+unfoldable pub syllableEnd : List ℕ → ℕ → ℕ
+syllableEnd name at = lowestFrom at (length name - at) (isSlash name)
 
 -- the syllable that starts at a place; none where the name is at its end
 abbrev pub takenAt : List ℕ → ℕ → Taken

@@ -1,6 +1,6 @@
 -- What a reader takes ends where the syllable ends, and what is left starts behind that.
 use Prim.Native.Nat.{ℕ, _+_, _-_, _≤_, _<_}
-use mathlib.Core.Path.{_≡_, refl, sym, _∙_}
+use mathlib.Core.Path.{_≡_}
 use mathlib.Core.Logic.{⊎-elim}
 use mathlib.Core.List.{List}
 use native.Mathlib.Omega.{arith}
@@ -8,8 +8,7 @@ use lib.ListN.{length}
 use borrow.Author.Tests.{lt-ltb, le-ltb}
 use Rattle.records.specs.Rows.{lowestFrom}
 use Rattle.records.specs.Tests.{lt-or-ge}
-use Rattle.names.specs.Syllables.{isSlash, syllableEnd}
-use Rattle.paths.specs.Taking.{takenAt, endTaken, behind}
+use Rattle.paths.specs.Taking.{syllableEnd, takenAt, endTaken, behind}
 
 module _ (name : List ℕ) (at : ℕ) where
   -- at the end of the name a syllable would end where it starts

@@ -1,8 +1,6 @@
 // Syllables are taken from the left, one at a time (01, "Names"). Whatever takes or makes the reader is thin and walked by hand; the work is in covered functions.
-use names::syllable_end;
 ghost use mathlib.Core.Path.{_≡_};
-ghost use Rattle.names.specs.Syllables.{syllableEnd};
-ghost use Rattle.paths.specs.Taking.{takenAt, endTaken, behind, readerAt, leftOf};
+ghost use Rattle.paths.specs.Taking.{syllableEnd, takenAt, endTaken, behind, readerAt, leftOf};
 
 // A name, and the place that the next syllable starts at.
 pub struct PathReader<'a> {
@@ -20,6 +18,20 @@ pub enum Taken {
 pub struct Step {
     pub end: usize,
     pub next: usize,
+}
+
+// Where the syllable that starts at a place ends: at the first slash from there on, or at the end of the name.
+fn syllable_end(name: &[u8], at: usize) -> usize
+    ensures { λ r. ⌜ r ≡ syllableEnd (now (name .entry)) at ⌝ }
+{
+    let mut i = at;
+    while i < name.len() {
+        if name[i] == b'/' {
+            return i;
+        }
+        i += 1;
+    }
+    i
 }
 
 // The syllable that starts at a place; there is none where the name is at its end.

@@ -37,7 +37,6 @@ use denote.Triple.Table.{entered, cited}
 use denote.Triple.Walked.{says, needs, Stays, stay-ref, stay-none, walkOf, AllGo, goes-none, goes-ref, Walks, ends-at, walked, walk-meets}
 use denote.Triple.Clauses.{ensured, lasts}
 use denote.Exit.{yes}
-use Rattle.channels.specs.Move.{movedBy}
 use Rattle.tables.specs.declared.ChannelRecord.{ChannelRecord}
 use Rattle.tables.proofs.ChannelRecord as T
 use Rattle.tables.proofs.ChannelRecord.Laws as T′

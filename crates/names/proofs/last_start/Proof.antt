@@ -1,81 +1,71 @@
--- What is left of the search from the right gives what the whole gives; the measure is what is left.
+-- The search stands at the start or behind a slash; the measure is what is left of the name.
 use Prim.Native.Nat.{ℕ, _+_, _-_, _≤_, _<_}
-use mathlib.Core.Path.{_≡_, refl, _∙_}
-use mathlib.Core.Bool.{Bool}
+use mathlib.Core.Path.{_≡_, sym, ap, _∙_}
+use mathlib.Core.Bool.{true}
 use mathlib.Core.List.{List}
 use native.Mathlib.Omega.{arith}
-use borrow.Author.Tests.{eq-eqb, ne-eqb}
-use lib.ListN.{length, getD}
-use Rattle.records.specs.Rows.{lowest, lowestFrom}
-use Rattle.records.specs.Numbers.{one}
-use Rattle.records.specs.RowLaws.{search-hit, search-miss, search-end}
-use Rattle.names.specs.Syllables.{isSlash, lastStart}
+use lib.ListN.{length}
+use Rattle.paths.specs.Taking.{isSlash, syllableEnd, behind}
+use Rattle.paths.specs.TakingLaws.{behind-slash}
+use Rattle.names.specs.Syllables.{lastStart}
+use Rattle.names.specs.SyllableLaws.{ends, end-low, end-within}
+use Rattle.names.specs.LastSyllable.{start-is}
 use borrow.Author.Needs.{needs}
 use Rattle.names.proofs.last_start.Statement.{statement}
 use Rattle.names.proofs.last_start.Tie as tie
 
--- a slash stands at place i, counted from the right
-abbrev fromRight : List ℕ → ℕ → Bool
-fromRight name i = isSlash name (length name - 1 - i)
+abbrev Behind : List ℕ → ℕ → Type 0
+Behind name at = 0 < at → isSlash name (at - 1) ≡ true
 
-start : (name : List ℕ) → lowest (length name) (fromRight name) ≡ lowestFrom 0 (length name - 0) (fromRight name)
-unfolding lowest
-start name =
-    let z : length name - 0 ≡ length name = omega arith in
-    rw z
+module _ (name : List ℕ) (at : ℕ) (inside : at ≤ length name) (so-far : Behind name at) where
+  none-left : length name ≤ at → at ≡ lastStart name
+  none-left h = sym (start-is name at inside so-far (omega (arith, end-low name at, end-within name at inside)))
 
-module _ (name : List ℕ) (n i : ℕ) (size : n ≡ length name) (so-far : lowest (length name) (fromRight name) ≡ lowestFrom i (n - i) (fromRight name)) where
-  hit : i < n → getD name (n - 1 - i) 0 ≡ 47 → n - i ≡ lastStart name
-  unfolding lastStart one
-  hit h e =
-      let q : lowestFrom i (n - i) (fromRight name) ≡ i = search-hit (fromRight name) i n h (rw size at (eq-eqb (getD name (n - 1 - i) 0) 47 e)) in
-      omega arith
+  module _ (end : ℕ) (isEnd : end ≡ syllableEnd name at) where
+    last-one : end ≡ length name → at ≡ lastStart name
+    last-one e = sym (start-is name at inside so-far (sym isEnd ∙ e))
 
-  no-slash : i < n → (getD name (n - 1 - i) 0 ≡ 47 → ⊥) → lowest (length name) (fromRight name) ≡ lowestFrom (i + 1) (n - (i + 1)) (fromRight name)
-  unfolding one
-  no-slash h e = so-far ∙ search-miss (fromRight name) i n h (rw size at (ne-eqb (getD name (n - 1 - i) 0) 47 e))
+    module _ (d : end ≡ length name → ⊥) (next : ℕ) (left : next ≡ behind name (syllableEnd name at)) where
+      within : end < length name
+      within = omega (arith, isEnd, end-within name at inside)
 
-  none : i ≤ n → n ≤ i → 0 ≡ lastStart name
-  unfolding lastStart
-  none l h =
-      let q : lowestFrom i (n - i) (fromRight name) ≡ i = search-end (fromRight name) i n h in
-      omega arith
+      next-is : next ≡ end + 1
+      next-is = left ∙ ap (behind name) (sym isEnd) ∙ behind-slash name end within
+
+      next-inside : next ≤ length name
+      next-inside = omega (arith, next-is, within)
+
+      next-behind : Behind name next
+      next-behind h =
+          let z : next - 1 ≡ end = omega (arith, next-is) in
+          rw (z, isEnd) (ends name at .hit (omega (arith, isEnd, within)))
+
+      next-less : length name - next < length name - at
+      next-less = omega (arith, next-is, isEnd, end-low name at, within)
 
 abbrev Inv-loop : tie.InvT-loop
-Inv-loop name n i₀ i = (n ≡ length name) × (i ≤ n) × (lowest (length name) (fromRight name) ≡ lowestFrom i (n - i) (fromRight name))
+Inv-loop name at₀ at = (at ≤ length name) × Behind name at
 
 abbrev μ-loop : tie.MeasureT-loop
-μ-loop name n i₀ i = n - i
+μ-loop name at₀ at = length name - at
 
 loop-holds : tie.Need-loop-holds Inv-loop μ-loop
-loop-holds c = (refl, search needs, search start)
+loop-holds c = (search needs, λ (h : 0 < 0). absurd (omega arith))
 
-sub-if1 : tie.Need-sub-if1 Inv-loop μ-loop
-sub-if1 c = search needs
-
-sub-if1-2 : tie.Need-sub-if1-2 Inv-loop μ-loop
-sub-if1-2 c = search needs
-
-shared-slice-read-if1 : tie.Need-shared-slice-read-if1 Inv-loop μ-loop
-shared-slice-read-if1 c = search needs
-
-sub-result : tie.Need-sub-result Inv-loop μ-loop
-sub-result c = search needs
+take-syllable-requires : tie.Need-take-syllable-requires Inv-loop μ-loop
+take-syllable-requires c κs = search needs
 
 returns : tie.Need-returns Inv-loop μ-loop
-returns c = search hit
-
-add-i : tie.Need-add-i Inv-loop μ-loop
-add-i c = search needs
+returns c = search last-one
 
 loop-less : tie.Need-loop-less Inv-loop μ-loop
-loop-less c = search needs
+loop-less c = search next-less
 
 loop-again : tie.Need-loop-again Inv-loop μ-loop
-loop-again c = (search needs, search needs, search no-slash)
+loop-again c = (search next-inside, search next-behind)
 
 returns-2 : tie.Need-returns-2 Inv-loop μ-loop
-returns-2 c = search none
+returns-2 c = search none-left
 
 pub last-start-spec : {M : Type 1} → statement M
 last-start-spec =
@@ -84,12 +74,8 @@ last-start-spec =
     Inv-loop
     μ-loop
     loop-holds
-    sub-if1
-    sub-if1-2
-    shared-slice-read-if1
-    sub-result
+    take-syllable-requires
     returns
-    add-i
     loop-less
     loop-again
     returns-2)

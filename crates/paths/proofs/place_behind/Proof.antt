@@ -1,5 +1,4 @@
 -- The test that led to each answer picks it.
-use native.Mathlib.Omega.{arith}
 use borrow.Author.Needs.{needs}
 use borrow.Author.Tests.{lt-ltb, le-ltb}
 use Rattle.paths.proofs.place_behind.Statement.{statement}

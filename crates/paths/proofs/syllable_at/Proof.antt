@@ -1,5 +1,5 @@
 -- The test that led to each answer picks it.
-use mathlib.Core.Path.{_≡_, ap}
+use mathlib.Core.Path.{ap}
 use borrow.Author.Needs.{needs}
 use borrow.Author.Tests.{lt-ltb, le-ltb}
 use Rattle.paths.specs.declared.Taken.the-variants.{Syllable}

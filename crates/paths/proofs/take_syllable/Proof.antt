@@ -39,8 +39,7 @@ use denote.Triple.Table.{entered, cited}
 use denote.Triple.Walked.{says, Stays, stay-none, stay-none-slice, walkOf, goes-none, goes-none-slice, Walks, ends-at, walked, walk-meets}
 use denote.Exit.{yes}
 use denote.Triple.Clauses.{ensured, lasts}
-use Rattle.names.specs.Syllables.{syllableEnd}
-use Rattle.paths.specs.Taking.{takenAt, endTaken, behind, readerAt, leftOf}
+use Rattle.paths.specs.Taking.{syllableEnd, takenAt, endTaken, behind, readerAt, leftOf}
 use Rattle.paths.specs.TakingLaws.{end-taken}
 use Rattle.paths.specs.declared.PathReader.{PathReader}
 use Rattle.paths.specs.declared.Taken.{Taken}
