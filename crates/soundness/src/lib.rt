@@ -1,7 +1,6 @@
 // Whether four lent tables are a sound store, decided on any bytes (01, "A store is sound when all of these hold").
 use meaning::FileNo;
 use names::is_blank;
-use names::is_syllable;
 use names::record_file;
 use records::four_at;
 use records::one_at;
@@ -15,7 +14,7 @@ ghost use Prim.Native.Nat.{suc, _+_, _*_, _≤_, _<_};
 ghost use lib.ListN.{length};
 ghost use Rattle.records.specs.Rows.{every};
 ghost use Rattle.records.specs.Numbers.{zeros};
-ghost use Rattle.meaning.specs.Name.{nameEnd, isWritten, same, entryIn, entryAt};
+ghost use Rattle.meaning.specs.Name.{isWritten, same, entryIn, entryAt};
 ghost use Rattle.meaning.specs.Store.{inUse, isDirectory};
 ghost use Rattle.meaning.specs.Tables.{tables, blockCount, fileCount, channelCount, lengthAt};
 ghost use Rattle.meaning.specs.Sound.{lengthsAgree, blockSound, placedOnce, fileSound, filesSound, channelSound, channelsSound, recordSound, sound};
@@ -308,31 +307,26 @@ fn slot_at(starts: &[u16; 64], i: usize) -> usize
     32 * (starts[i / 32] as usize) + i % 32
 }
 
-// Where the name of the record that starts at a place ends.
-fn name_end(table: &[u8], at: usize) -> usize
-    requires { ⌜ at + 16 ≤ length (now table) ⌝ }
-    ensures { λ r. ⌜ r ≡ nameEnd (recordFrom (now (table .entry)) at) ⌝ }
-{
-    let mut i: usize = 0;
-    while i < 14 {
-        if one_at(table, at + 2 + i) == 0 {
-            return i;
-        }
-        i += 1;
-    }
-    14
-}
-
 // Whether the record that starts at a place has a syllable as its name, and zeros behind it.
 fn is_written(table: &[u8], at: usize) -> bool
     requires { ⌜ at + 16 ≤ length (now table) ⌝ }
     ensures { λ r. ⌜ r ≡ isWritten (recordFrom (now (table .entry)) at) ⌝ }
 {
-    let end = name_end(table, at);
-    if !is_syllable(table, at + 2, at + 2 + end) {
-        return false;
+    let mut i: usize = 0;
+    while i < 14 {
+        let b = one_at(table, at + 2 + i);
+        if b == 0 {
+            if i == 0 {
+                return false;
+            }
+            return zeros_at(table, at + 2 + i, 14 - i);
+        }
+        if b == b'/' {
+            return false;
+        }
+        i += 1;
     }
-    zeros_at(table, at + 2 + end, 14 - end)
+    true
 }
 
 // Whether the records that start at two places have the same name. Zeros stand behind both, so their bytes are compared
