@@ -27,6 +27,7 @@ ghost use Rattle.soundness.specs.Chains.{Padded, chainFrom, chainAt, Las
 ghost use Rattle.soundness.specs.DirectoryRules.{directoryRule, directoriesRule};
 ghost use Rattle.soundness.specs.Counts.{Counts};
 ghost use Rattle.soundness.specs.SoundLaws.{tablesSound};
+ghost use Rattle.soundness.specs.PlaceCounts.{Placeable, PlaceCounts, countedBelow, countedOnce};
 
 // Whether f is the number of a file in use.
 pub fn in_use(file_records: &[u8], f: FileNo) -> bool
@@ -229,8 +230,9 @@ fn file_placed(block_records: &[u8], file_records: &[u8], r: usize) -> bool
     placed_below(block_records, FileNo(r as u16 + 1), n as u16)
 }
 
-// Whether each place of each file has exactly one block. File records are sound, so no file has more than 64 places.
-fn places_sound(block_records: &[u8], file_records: &[u8]) -> bool
+// Whether each place of each file has exactly one block, each looked for among all. File records are sound, so no file
+// has more than 64 places.
+fn places_searched(block_records: &[u8], file_records: &[u8]) -> bool
     requires { ⌜ (fileCount (now «file_records») ≤ 64) × (filesSound (filesStore (now «file_records»)) ≡ true) ⌝ }
     ensures { λ b. ⌜ b ≡ every (fileCount (now («file_records» .entry))) (λ r. placedOnce (recordTables (now («block_records» .entry)) (now («file_records» .entry))) (suc r)) ⌝ }
 {
@@ -243,6 +245,76 @@ fn places_sound(block_records: &[u8], file_records: &[u8]) -> bool
         r += 1;
     }
     true
+}
+
+// How many blocks are each place of each file, 64 places to a file. Free blocks count as place 0 of file 0.
+fn count_places(block_records: &[u8]) -> [u8; 4160]
+    requires { ⌜ Placeable (now «block_records») ⌝ }
+    ensures { λ r. ⌜ PlaceCounts (now («block_records» .entry)) (blockCount (now («block_records» .entry))) r ⌝ }
+{
+    let mut counts: [u8; 4160] = [0; 4160];
+    let count = block_records.len() / 4;
+    let mut b = 0;
+    while b < count {
+        let owner = two_at(block_records, 4 * b);
+        let place = two_at(block_records, 4 * b + 2);
+        let k = 64 * (owner as usize) + place as usize;
+        counts[k] += 1;
+        b += 1;
+    }
+    counts
+}
+
+// Whether each of the first n places of file f is counted once.
+fn counted_below(counts: &[u8; 4160], f: usize, n: usize) -> bool
+    requires { ⌜ (f ≤ 64) × (n ≤ 64) ⌝ }
+    ensures { λ r. ⌜ r ≡ countedBelow (now (counts .entry)) f n ⌝ }
+{
+    let mut i: usize = 0;
+    while i < n {
+        if counts[64 * f + i] != 1 {
+            return false;
+        }
+        i += 1;
+    }
+    true
+}
+
+// Whether each place of each file is counted once.
+fn all_counted(file_records: &[u8], counts: &[u8; 4160]) -> bool
+    requires { ⌜ (fileCount (now «file_records») ≤ 64) × (filesSound (filesStore (now «file_records»)) ≡ true) ⌝ }
+    ensures { λ b. ⌜ b ≡ every (fileCount (now («file_records» .entry))) (countedOnce (now (counts .entry)) (now («file_records» .entry))) ⌝ }
+{
+    let last = file_records.len() / 8;
+    let mut r: usize = 0;
+    while r < last {
+        let size = four_at(file_records, 8 * r + 4) as usize;
+        if !counted_below(counts, r + 1, (size + 511) / 512) {
+            return false;
+        }
+        r += 1;
+    }
+    true
+}
+
+// The same as places_searched, by one pass over the block records, which are sound.
+fn places_counted(block_records: &[u8], file_records: &[u8]) -> bool
+    requires { ⌜ (fileCount (now «file_records») ≤ 64) × (filesSound (filesStore (now «file_records»)) ≡ true) ⌝ ∗ ⌜ Placeable (now «block_records») ⌝ }
+    ensures { λ b. ⌜ b ≡ every (fileCount (now («file_records» .entry))) (λ r. placedOnce (recordTables (now («block_records» .entry)) (now («file_records» .entry))) (suc r)) ⌝ }
+{
+    let counts = count_places(block_records);
+    all_counted(file_records, &counts)
+}
+
+// Whether each place of each file has exactly one block. For few blocks counts do not pay.
+fn places_sound(block_records: &[u8], file_records: &[u8]) -> bool
+    requires { ⌜ (fileCount (now «file_records») ≤ 64) × (filesSound (filesStore (now «file_records»)) ≡ true) ⌝ ∗ ⌜ Placeable (now «block_records») ⌝ }
+    ensures { λ b. ⌜ b ≡ every (fileCount (now («file_records» .entry))) (λ r. placedOnce (recordTables (now («block_records» .entry)) (now («file_records» .entry))) (suc r)) ⌝ }
+{
+    if block_records.len() < 128 {
+        return places_searched(block_records, file_records);
+    }
+    places_counted(block_records, file_records)
 }
 
 // Whether a count is from 1 up to a most.
