@@ -27,10 +27,10 @@ pub record Placeable (records : List ℕ) : Type 0 where
   pub owners : (b : ℕ) → b < blockCount records → owner records b ≤ 64
   pub places : (b : ℕ) → b < blockCount records → place records b < 64
 
--- a row of counts, 64 to a file number: how many of the first n blocks are each place of each file
+-- a row of counts, 64 to a file: how many of the first n blocks are each place of each file
 pub record PlaceCounts (records : List ℕ) (n : ℕ) (counts : List ℕ) : Type 0 where
   pub size : length counts ≡ 4160
-  pub each : (f i : ℕ) → f ≤ 64 → i < 64 → getD counts (64 * f + i) 0 ≡ howMany n (λ b. holds records f i b)
+  pub each : (f i : ℕ) → 0 < f → f ≤ 64 → i < 64 → getD counts (64 * f + i) 0 ≡ howMany n (λ b. holds records f i b)
 
 -- each of the first n places of file f is counted once
 unfoldable pub countedBelow : List ℕ → ℕ → ℕ → Bool
@@ -71,24 +71,37 @@ module _ (records : List ℕ) where
   places-start =
       record {
         size = length-replicate {A = ℕ} 4160 0;
-        each = λ f i h l. getD-replicate {A = ℕ} 4160 (64 * f + i) 0 0 (omega arith) ∙ sym (count-start (λ b. holds records f i b));
+        each = λ f i s h l. getD-replicate {A = ℕ} 4160 (64 * f + i) 0 0 (omega arith) ∙ sym (count-start (λ b. holds records f i b));
       }
 
+  module _ (b : ℕ) (counts : List ℕ) (so-far : PlaceCounts records b counts) where
+    -- a free block is no file's
+    pub places-free : owner records b ≡ 0 → PlaceCounts records (b + 1) counts
+    unfolding holds
+    places-free z =
+        record {
+          size = so-far .size;
+          each = λ g j s l m.
+              let miss : howMany (b + 1) (λ b. holds records g j b) ≡ howMany b (λ b. holds records g j b) =
+              count-miss (λ b. holds records g j b) b (rw (ne-eqb (owner records b) g (λ e. omega arith))) in
+              omega (arith, so-far .each g j s l m);
+        }
+
   module _ (can : Placeable records) (b : ℕ) (h : b < blockCount records) (counts : List ℕ) (so-far : PlaceCounts records b counts)
-      (f i : ℕ) (f-is : f ≡ owner records b) (i-is : i ≡ place records b) where
+      (f i : ℕ) (f-is : f ≡ owner records b) (i-is : i ≡ place records b) (some : f ≢ 0) where
     pub place-there : 64 * f + i < 4160
     place-there = omega (arith, can .owners b h, can .places b h)
 
     pub place-low : getD counts (64 * f + i) 0 ≤ 128
     place-low =
-        omega (arith, so-far .each f i (omega (arith, can .owners b h)) (omega (arith, can .places b h)), howMany-within (λ b. holds records f i b) b, can .few)
+        omega (arith, so-far .each f i (omega arith) (omega (arith, can .owners b h)) (omega (arith, can .places b h)), howMany-within (λ b. holds records f i b) b, can .few)
 
     pub places-next : PlaceCounts records (b + 1) (set counts (64 * f + i) (getD counts (64 * f + i) 0 + 1))
     unfolding holds
     places-next =
         record {
           size = length-set counts (64 * f + i) (getD counts (64 * f + i) 0 + 1) ∙ so-far .size;
-          each = λ g j (l : g ≤ 64) (m : j < 64). ⊎-elim
+          each = λ g j s (l : g ≤ 64) (m : j < 64). ⊎-elim
               (λ (e : 64 * g + j ≡ 64 * f + i).
               let il : i < 64 = omega (arith, can .places b h) in
               let ef : g ≡ f = omega arith in
@@ -97,13 +110,13 @@ module _ (records : List ℕ) where
               count-hit (λ b. holds records g j b) b (rw (eq-eqb (owner records b) g (sym f-is ∙ sym ef), eq-eqb (place records b) j (sym i-is ∙ sym ei))) in
               let now : getD (set counts (64 * f + i) (getD counts (64 * f + i) 0 + 1)) (64 * g + j) 0 ≡ getD counts (64 * g + j) 0 + 1 =
               rw e (getD-set-same counts (64 * f + i) (getD counts (64 * f + i) 0 + 1) 0 (omega (arith, place-there, so-far .size))) in
-              omega (arith, so-far .each g j l m))
+              omega (arith, so-far .each g j s l m))
               (λ (d : 64 * g + j ≢ 64 * f + i).
               let miss : howMany (b + 1) (λ b. holds records g j b) ≡ howMany b (λ b. holds records g j b) =
               count-miss (λ b. holds records g j b) b (another g j d) in
               let now : getD (set counts (64 * f + i) (getD counts (64 * f + i) 0 + 1)) (64 * g + j) 0 ≡ getD counts (64 * g + j) 0 =
               getD-set-other counts (64 * f + i) (64 * g + j) (getD counts (64 * f + i) 0 + 1) 0 d in
-              omega (arith, so-far .each g j l m))
+              omega (arith, so-far .each g j s l m))
               (same-or-not (64 * g + j) (64 * f + i));
         }
       where
@@ -125,4 +138,4 @@ counted-placed records files counts counted few sound-files =
     (λ r (h : r < fileCount files).
     every-cong (needed (lengthAt files r)) (λ i. eqb (getD counts (64 * suc r + i) 0) 1) (λ i. eqb (howMany (blockCount records) (λ b. holds records (suc r) i b)) 1)
     (λ i (l : i < needed (lengthAt files r)).
-    ap (λ n. eqb n 1) (counted .each (suc r) i (omega arith) (omega (arith, files-short files sound-files r h)))))
+    ap (λ n. eqb n 1) (counted .each (suc r) i (omega arith) (omega arith) (omega (arith, files-short files sound-files r h)))))

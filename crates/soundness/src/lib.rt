@@ -247,7 +247,21 @@ fn places_searched(block_records: &[u8], file_records: &[u8]) -> bool
     true
 }
 
-// How many blocks are each place of each file, 64 places to a file. Free blocks count as place 0 of file 0.
+// Block b counted as its place of its owner, unless it is free.
+fn count_block(block_records: &[u8], b: usize, counts: &mut [u8; 4160])
+    requires { ⌜ Placeable (now «block_records») ⌝ ∗ ⌜ b < blockCount (now «block_records») ⌝ ∗ ⌜ PlaceCounts (now «block_records») b (now counts) ⌝ }
+    ensures { λ r. ⌜ PlaceCounts (now («block_records» .entry)) (b + 1) (now (counts .exit)) ⌝ }
+{
+    let owner = two_at(block_records, 4 * b);
+    if owner == 0 {
+        return;
+    }
+    let place = two_at(block_records, 4 * b + 2);
+    let k = 64 * (owner as usize) + place as usize;
+    counts[k] += 1;
+}
+
+// How many blocks are each place of each file, 64 places to a file.
 fn count_places(block_records: &[u8]) -> [u8; 4160]
     requires { ⌜ Placeable (now «block_records») ⌝ }
     ensures { λ r. ⌜ PlaceCounts (now («block_records» .entry)) (blockCount (now («block_records» .entry))) r ⌝ }
@@ -256,10 +270,7 @@ fn count_places(block_records: &[u8]) -> [u8; 4160]
     let count = block_records.len() / 4;
     let mut b = 0;
     while b < count {
-        let owner = two_at(block_records, 4 * b);
-        let place = two_at(block_records, 4 * b + 2);
-        let k = 64 * (owner as usize) + place as usize;
-        counts[k] += 1;
+        count_block(block_records, b, &mut counts);
         b += 1;
     }
     counts
