@@ -16,5 +16,6 @@ pub mod DirectoryRules
 pub mod DirectoryReads
 pub mod Counts
 pub mod SoundLaws
+pub mod PlaceCounts
 pub mod NamesSeen
 pub mod SoundRules

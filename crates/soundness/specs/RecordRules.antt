@@ -3,26 +3,37 @@ use Prim.Native.Nat.{ℕ, _+_, _-_, _≤_, _<_}
 use mathlib.Core.Path.{_≡_, refl, sym, ap, _∙_}
 use mathlib.Core.Logic.{_≢_, ⊎-elim}
 use mathlib.Core.List.{List}
-use mathlib.Core.Bool.{Bool, true, _&&_}
+use mathlib.Core.Bool.{Bool, true, false, not, _&&_, and-true}
 use native.Mathlib.Omega.{arith}
 use lib.ListN.{length, getD}
 use lib.Seq.{ext-getD}
-use lib.Dec.{eqb}
-use Rattle.records.specs.Rows.{lowest}
-use Rattle.records.specs.RowLaws.{lowest-cong}
+use lib.Dec.{ltb, eqb}
+use borrow.Author.Tests.{eq-eqb, ne-eqb, eqb-true, eqb-false, le-leb, not-true}
+use Rattle.records.specs.Rows.{every}
+use Rattle.records.specs.RowLaws.{every-all, every-cong, lowest-cong, lowest-hit, lowest-is}
+use Rattle.records.specs.LoopLaws.{every-fail}
 use Rattle.records.specs.NumberLaws.{two-small, two-cong, four-cong, zeros-cong}
 use Rattle.records.specs.Numbers.{one, two, four, zeros}
-use Rattle.records.specs.Tests.{same-or-not, lt-or-ge}
-use Rattle.meaning.specs.Name.{nameEnd, entryIn, isWritten, isSyllable, same}
+use Rattle.records.specs.Tests.{and-left, and-false, same-or-not, lt-or-ge}
+use Rattle.meaning.specs.Name.{slash, nameEnd, entryIn, isWritten, isSyllable, same}
 use Rattle.names.specs.SameLaws.{same-is, is-same}
-use Rattle.names.specs.Syllables.{part}
-use Rattle.names.specs.SyllableLaws.{length-part, one-part}
 use Rattle.names.specs.RecordLaws.{nameEnd-within, name-length, name-one}
 use Rattle.names.specs.RecordNames.{recordFrom, record-length, record-one}
 
--- a name's byte i is zero, read in a table
-abbrev pub isEnd : List ℕ → ℕ → ℕ → Bool
-isEnd table at i = eqb (one table (at + 2 + i)) 0
+-- ---- a record's name
+
+-- a name's byte i, read in a table, is neither 0 nor "/"
+unfoldable pub lettered : List ℕ → ℕ → ℕ → Bool
+lettered table at i = not (eqb (one table (at + 2 + i)) 0) && not (eqb (one table (at + 2 + i)) slash)
+
+pub is-lettered : (table : List ℕ) (at i b : ℕ) → b ≡ one table (at + 2 + i) → (b ≡ 0 → ⊥) → (b ≡ slash → ⊥) → lettered table at i ≡ true
+unfolding lettered
+is-lettered table at i b e z s = rw (← e, ne-eqb b 0 z, ne-eqb b slash s)
+
+-- a name that ends within its 14 bytes ends at a zero
+ends-zero : (s : List ℕ) → nameEnd s < 14 → one s (2 + nameEnd s) ≡ 0
+unfolding nameEnd
+ends-zero s h = eqb-true (one s (2 + nameEnd s)) 0 (lowest-hit 14 (λ j. eqb (one s (2 + j)) 0) h)
 
 module _ (table : List ℕ) (at : ℕ) (fits : at + 16 ≤ length table) where
   abbrev r : List ℕ
@@ -36,23 +47,8 @@ module _ (table : List ℕ) (at : ℕ) (fits : at + 16 ≤ length table) where
       let e : at + (2 + i) ≡ at + 2 + i = omega arith in
       record-one table at fits (2 + i) (omega arith) ∙ ap (one table) e
 
-  pub end-there : nameEnd r ≡ lowest 14 (isEnd table at)
-  unfolding nameEnd
-  end-there = lowest-cong 14 (λ i. eqb (one r (2 + i)) 0) (isEnd table at) (λ i h. ap (λ b. eqb b 0) (name-byte i h))
-
-  pub end-within : nameEnd r ≤ 14
+  end-within : nameEnd r ≤ 14
   end-within = nameEnd-within r size
-
-  -- the name is that part of the table
-  pub name-part : entryIn r .name ≡ part table (at + 2) (at + 2 + nameEnd r)
-  unfolding one
-  name-part =
-      let within : nameEnd r ≤ 14 = end-within in
-      let long : length (part table (at + 2) (at + 2 + nameEnd r)) ≡ nameEnd r = length-part table (at + 2) (at + 2 + nameEnd r) (omega arith) (omega arith) ∙ omega arith in
-      ext-getD 0 (entryIn r .name) (part table (at + 2) (at + 2 + nameEnd r)) (name-length r size ∙ sym long)
-      (λ i (h : i < length (entryIn r .name)).
-      let b : i < nameEnd r = rw (name-length r size) at h in
-      name-one r size i b ∙ name-byte i (omega arith) ∙ sym (one-part table (at + 2) (at + 2 + nameEnd r) i (omega arith)))
 
   zeros-there : zeros r (2 + nameEnd r) (14 - nameEnd r) ≡ zeros table (at + 2 + nameEnd r) (14 - nameEnd r)
   unfolding one
@@ -63,9 +59,63 @@ module _ (table : List ℕ) (at : ℕ) (fits : at + 16 ≤ length table) where
       let e : at + (2 + nameEnd r + k) ≡ at + 2 + nameEnd r + k = omega arith in
       record-one table at fits (2 + nameEnd r + k) (omega arith) ∙ ap (one table) e)
 
-  pub written-there : isWritten r ≡ isSyllable (part table (at + 2) (at + 2 + nameEnd r)) && zeros table (at + 2 + nameEnd r) (14 - nameEnd r)
-  unfolding isWritten
-  written-there = rw (name-part, zeros-there)
+  letters-there : every (nameEnd r) (λ i. not (eqb (one (entryIn r .name) i) 0) && not (eqb (one (entryIn r .name) i) slash)) ≡ every (nameEnd r) (lettered table at)
+  unfolding lettered
+  letters-there =
+      every-cong (nameEnd r) (λ i. not (eqb (one (entryIn r .name) i) 0) && not (eqb (one (entryIn r .name) i) slash)) (lettered table at)
+      (λ i (h : i < nameEnd r).
+      ap (λ b. not (eqb b 0) && not (eqb b slash)) (name-one r size i h ∙ name-byte i (omega (arith, end-within))))
+
+  written-there : isWritten r ≡ (ltb 0 (nameEnd r) && every (nameEnd r) (lettered table at)) && zeros table (at + 2 + nameEnd r) (14 - nameEnd r)
+  unfolding isWritten isSyllable
+  written-there =
+      rw (name-length r size, le-leb (nameEnd r) 14 end-within, zeros-there, letters-there)
+      (ap (λ t. t && every (nameEnd r) (lettered table at) && zeros table (at + 2 + nameEnd r) (14 - nameEnd r)) (and-true (ltb 0 (nameEnd r))))
+
+  module _ (i : ℕ) (within : i ≤ 14) (so-far : every i (lettered table at) ≡ true) where
+    no-zero : (j : ℕ) → j < i → one table (at + 2 + j) ≢ 0
+    unfolding lettered
+    no-zero j h =
+        eqb-false (one table (at + 2 + j)) 0
+        (not-true (eqb (one table (at + 2 + j)) 0)
+        (and-left (not (eqb (one table (at + 2 + j)) 0)) (not (eqb (one table (at + 2 + j)) slash)) (every-all i (lettered table at) so-far j h)))
+
+    ends-at : (i < 14 → one table (at + 2 + i) ≡ 0) → nameEnd r ≡ i
+    unfolding nameEnd
+    ends-at z =
+        lowest-is 14 (λ j. eqb (one r (2 + j)) 0) i within
+        (λ j (h : j < i). ne-eqb (one r (2 + j)) 0 (λ e. no-zero j h (sym (name-byte j (omega arith)) ∙ e)))
+        (λ l. eq-eqb (one r (2 + i)) 0 (name-byte i l ∙ z l))
+
+    -- the name's first zero is at i
+    pub written-ended : i < 14 → one table (at + 2 + i) ≡ 0 → isWritten r ≡ ltb 0 i && zeros table (at + 2 + i) (14 - i)
+    written-ended h z = written-there ∙ rw (ends-at (λ l. z), so-far) (ap (λ t. t && zeros table (at + 2 + i) (14 - i)) (and-true (ltb 0 i)))
+
+    -- the name has all 14 bytes
+    pub written-full : 14 ≤ i → isWritten r ≡ true
+    unfolding zeros every
+    written-full h = let e : i ≡ 14 = omega arith in written-there ∙ rw (ends-at (λ l. absurd (omega arith)), so-far, e)
+
+    -- a slash is in the name
+    pub written-slash : i < 14 → one table (at + 2 + i) ≡ slash → isWritten r ≡ false
+    unfolding lettered
+    written-slash h s =
+        ⊎-elim
+        (λ (l : i < nameEnd r).
+        let bad : every (nameEnd r) (lettered table at) ≡ false = every-fail (lettered table at) i (nameEnd r) l (rw s) in
+        written-there ∙ rw (bad, and-false (ltb 0 (nameEnd r))))
+        (λ (l : nameEnd r ≤ i). absurd (at-end l))
+        (lt-or-ge i (nameEnd r))
+      where
+        zero-there : nameEnd r < 14 → one table (at + 2 + nameEnd r) ≡ 0
+        zero-there l = sym (name-byte (nameEnd r) l) ∙ ends-zero r l
+
+        at-end : nameEnd r ≤ i → ⊥
+        at-end l =
+            ⊎-elim
+            (λ (e : nameEnd r ≡ i). let z : one table (at + 2 + i) ≡ 0 = rw e at (zero-there (omega arith)) in omega (arith, s))
+            (λ (d : nameEnd r ≢ i). no-zero (nameEnd r) (omega arith) (zero-there (omega arith)))
+            (same-or-not (nameEnd r) i)
 
 -- ---- two records' names
 

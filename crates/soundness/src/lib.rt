@@ -1,7 +1,6 @@
 // Whether four lent tables are a sound store, decided on any bytes (01, "A store is sound when all of these hold").
 use meaning::FileNo;
 use names::is_blank;
-use names::is_syllable;
 use names::record_file;
 use records::four_at;
 use records::one_at;
@@ -15,7 +14,7 @@ ghost use Prim.Native.Nat.{suc, _+_, _*_, _≤_, _<_};
 ghost use lib.ListN.{length};
 ghost use Rattle.records.specs.Rows.{every};
 ghost use Rattle.records.specs.Numbers.{zeros};
-ghost use Rattle.meaning.specs.Name.{nameEnd, isWritten, same, entryIn, entryAt};
+ghost use Rattle.meaning.specs.Name.{isWritten, same, entryIn, entryAt};
 ghost use Rattle.meaning.specs.Store.{inUse, isDirectory};
 ghost use Rattle.meaning.specs.Tables.{tables, blockCount, fileCount, channelCount, lengthAt};
 ghost use Rattle.meaning.specs.Sound.{lengthsAgree, blockSound, placedOnce, fileSound, filesSound, channelSound, channelsSound, recordSound, sound};
@@ -28,6 +27,7 @@ ghost use Rattle.soundness.specs.Chains.{Padded, chainFrom, chainAt, Las
 ghost use Rattle.soundness.specs.DirectoryRules.{directoryRule, directoriesRule};
 ghost use Rattle.soundness.specs.Counts.{Counts};
 ghost use Rattle.soundness.specs.SoundLaws.{tablesSound};
+ghost use Rattle.soundness.specs.PlaceCounts.{Placeable, PlaceCounts, countedBelow, countedOnce};
 
 // Whether f is the number of a file in use.
 pub fn in_use(file_records: &[u8], f: FileNo) -> bool
@@ -230,8 +230,9 @@ fn file_placed(block_records: &[u8], file_records: &[u8], r: usize) -> bool
     placed_below(block_records, FileNo(r as u16 + 1), n as u16)
 }
 
-// Whether each place of each file has exactly one block. File records are sound, so no file has more than 64 places.
-fn places_sound(block_records: &[u8], file_records: &[u8]) -> bool
+// Whether each place of each file has exactly one block, each looked for among all. File records are sound, so no file
+// has more than 64 places.
+fn places_searched(block_records: &[u8], file_records: &[u8]) -> bool
     requires { ⌜ (fileCount (now «file_records») ≤ 64) × (filesSound (filesStore (now «file_records»)) ≡ true) ⌝ }
     ensures { λ b. ⌜ b ≡ every (fileCount (now («file_records» .entry))) (λ r. placedOnce (recordTables (now («block_records» .entry)) (now («file_records» .entry))) (suc r)) ⌝ }
 {
@@ -244,6 +245,87 @@ fn places_sound(block_records: &[u8], file_records: &[u8]) -> bool
         r += 1;
     }
     true
+}
+
+// Block b counted as its place of its owner, unless it is free.
+fn count_block(block_records: &[u8], b: usize, counts: &mut [u8; 4160])
+    requires { ⌜ Placeable (now «block_records») ⌝ ∗ ⌜ b < blockCount (now «block_records») ⌝ ∗ ⌜ PlaceCounts (now «block_records») b (now counts) ⌝ }
+    ensures { λ r. ⌜ PlaceCounts (now («block_records» .entry)) (b + 1) (now (counts .exit)) ⌝ }
+{
+    let owner = two_at(block_records, 4 * b);
+    if owner == 0 {
+        return;
+    }
+    let place = two_at(block_records, 4 * b + 2);
+    let k = 64 * (owner as usize) + place as usize;
+    counts[k] += 1;
+}
+
+// How many blocks are each place of each file, 64 places to a file.
+fn count_places(block_records: &[u8]) -> [u8; 4160]
+    requires { ⌜ Placeable (now «block_records») ⌝ }
+    ensures { λ r. ⌜ PlaceCounts (now («block_records» .entry)) (blockCount (now («block_records» .entry))) r ⌝ }
+{
+    let mut counts: [u8; 4160] = [0; 4160];
+    let count = block_records.len() / 4;
+    let mut b = 0;
+    while b < count {
+        count_block(block_records, b, &mut counts);
+        b += 1;
+    }
+    counts
+}
+
+// Whether each of the first n places of file f is counted once.
+fn counted_below(counts: &[u8; 4160], f: usize, n: usize) -> bool
+    requires { ⌜ (f ≤ 64) × (n ≤ 64) ⌝ }
+    ensures { λ r. ⌜ r ≡ countedBelow (now (counts .entry)) f n ⌝ }
+{
+    let mut i: usize = 0;
+    while i < n {
+        if counts[64 * f + i] != 1 {
+            return false;
+        }
+        i += 1;
+    }
+    true
+}
+
+// Whether each place of each file is counted once.
+fn all_counted(file_records: &[u8], counts: &[u8; 4160]) -> bool
+    requires { ⌜ (fileCount (now «file_records») ≤ 64) × (filesSound (filesStore (now «file_records»)) ≡ true) ⌝ }
+    ensures { λ b. ⌜ b ≡ every (fileCount (now («file_records» .entry))) (countedOnce (now (counts .entry)) (now («file_records» .entry))) ⌝ }
+{
+    let last = file_records.len() / 8;
+    let mut r: usize = 0;
+    while r < last {
+        let size = four_at(file_records, 8 * r + 4) as usize;
+        if !counted_below(counts, r + 1, (size + 511) / 512) {
+            return false;
+        }
+        r += 1;
+    }
+    true
+}
+
+// The same as places_searched, by one pass over the block records, which are sound.
+fn places_counted(block_records: &[u8], file_records: &[u8]) -> bool
+    requires { ⌜ (fileCount (now «file_records») ≤ 64) × (filesSound (filesStore (now «file_records»)) ≡ true) ⌝ ∗ ⌜ Placeable (now «block_records») ⌝ }
+    ensures { λ b. ⌜ b ≡ every (fileCount (now («file_records» .entry))) (λ r. placedOnce (recordTables (now («block_records» .entry)) (now («file_records» .entry))) (suc r)) ⌝ }
+{
+    let counts = count_places(block_records);
+    all_counted(file_records, &counts)
+}
+
+// Whether each place of each file has exactly one block. For few blocks counts do not pay.
+fn places_sound(block_records: &[u8], file_records: &[u8]) -> bool
+    requires { ⌜ (fileCount (now «file_records») ≤ 64) × (filesSound (filesStore (now «file_records»)) ≡ true) ⌝ ∗ ⌜ Placeable (now «block_records») ⌝ }
+    ensures { λ b. ⌜ b ≡ every (fileCount (now («file_records» .entry))) (λ r. placedOnce (recordTables (now («block_records» .entry)) (now («file_records» .entry))) (suc r)) ⌝ }
+{
+    if block_records.len() < 128 {
+        return places_searched(block_records, file_records);
+    }
+    places_counted(block_records, file_records)
 }
 
 // Whether a count is from 1 up to a most.
@@ -308,31 +390,26 @@ fn slot_at(starts: &[u16; 64], i: usize) -> usize
     32 * (starts[i / 32] as usize) + i % 32
 }
 
-// Where the name of the record that starts at a place ends.
-fn name_end(table: &[u8], at: usize) -> usize
-    requires { ⌜ at + 16 ≤ length (now table) ⌝ }
-    ensures { λ r. ⌜ r ≡ nameEnd (recordFrom (now (table .entry)) at) ⌝ }
-{
-    let mut i: usize = 0;
-    while i < 14 {
-        if one_at(table, at + 2 + i) == 0 {
-            return i;
-        }
-        i += 1;
-    }
-    14
-}
-
 // Whether the record that starts at a place has a syllable as its name, and zeros behind it.
 fn is_written(table: &[u8], at: usize) -> bool
     requires { ⌜ at + 16 ≤ length (now table) ⌝ }
     ensures { λ r. ⌜ r ≡ isWritten (recordFrom (now (table .entry)) at) ⌝ }
 {
-    let end = name_end(table, at);
-    if !is_syllable(table, at + 2, at + 2 + end) {
-        return false;
+    let mut i: usize = 0;
+    while i < 14 {
+        let b = one_at(table, at + 2 + i);
+        if b == 0 {
+            if i == 0 {
+                return false;
+            }
+            return zeros_at(table, at + 2 + i, 14 - i);
+        }
+        if b == b'/' {
+            return false;
+        }
+        i += 1;
     }
-    zeros_at(table, at + 2 + end, 14 - end)
+    true
 }
 
 // Whether the records that start at two places have the same name. Zeros stand behind both, so their bytes are compared

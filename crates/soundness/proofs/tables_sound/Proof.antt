@@ -10,6 +10,7 @@ use Rattle.layout.specs.Lengths.{lengths-agree}
 use Rattle.soundness.specs.RuleLoops.{allOf-fails, allOf-last}
 use Rattle.soundness.specs.Seen.{filesStore}
 use Rattle.soundness.specs.SoundLaws.{zerosIn, tablesSound, ownersSound, placesSound, tableRules, table-rules}
+use Rattle.soundness.specs.PlaceCounts.{Placeable, placeable}
 use borrow.Author.Needs.{needs}
 use Rattle.soundness.proofs.tables_sound.Statement.{statement}
 use Rattle.soundness.proofs.tables_sound.Tie as tie
@@ -31,9 +32,13 @@ module _ (blocks records files channels : List ℕ) where
         (sym a ∙ not-false lengths a-ok, (sym b ∙ not-false zeros-f b-ok, (sym c ∙ not-false zeros-c c-ok, (sym d ∙ not-false file-rule d-ok, (sym e ∙ not-false owners e-ok, tt))))))
 
   -- what the rule of places asks for
-  ready : (lengths file-rule : Bool) → lengths ≡ lengthsAgree t → file-rule ≡ filesSound (filesStore files) → not lengths ≡ false → not file-rule ≡ false →
-      (fileCount files ≤ 64) × (filesSound (filesStore files) ≡ true)
-  ready lengths file-rule a d a-ok d-ok = (lengths-agree t (sym a ∙ not-false lengths a-ok) .few-files, sym d ∙ not-false file-rule d-ok)
+  module _ (lengths file-rule owners : Bool) (a : lengths ≡ lengthsAgree t) (d : file-rule ≡ filesSound (filesStore files)) (e : owners ≡ ownersSound t)
+      (a-ok : not lengths ≡ false) (d-ok : not file-rule ≡ false) (e-ok : not owners ≡ false) where
+    ready : ((fileCount files ≤ 64) × (filesSound (filesStore files) ≡ true)) × Placeable records
+    ready =
+        let l = lengths-agree t (sym a ∙ not-false lengths a-ok) in
+        let f : filesSound (filesStore files) ≡ true = sym d ∙ not-false file-rule d-ok in
+        ((l .few-files, f), placeable records files (l .few-blocks) (l .few-files) f (sym e ∙ not-false owners e-ok))
 
 lengths-agree-requires : tie.Need-lengths-agree-requires
 lengths-agree-requires c κs = search needs
@@ -69,7 +74,7 @@ places-sound-requires : tie.Need-places-sound-requires
 places-sound-requires c κs =
     let e4 = c .before .before in
     let e1 = e4 .before .before .before .before .before .before in
-    ready _ _ _ _ _ _ (e1 .before .lengths-agree .ensures) (e4 .before .files-sound .ensures) (e1 .if1 .left) (e4 .if4 .left)
+    ready _ _ _ _ _ _ _ (e1 .before .lengths-agree .ensures) (e4 .before .files-sound .ensures) (c .before .owners-sound .ensures) (e1 .if1 .left) (e4 .if4 .left) (c .if5 .left)
 
 returns-6 : tie.Need-returns-6
 returns-6 c =

@@ -11,8 +11,8 @@ use Rattle.meaning.specs.Sound.{placedOnce}
 use Rattle.soundness.specs.Seen.{recordTables}
 use Rattle.soundness.specs.SoundLaws.{files-short}
 use borrow.Author.Needs.{needs}
-use Rattle.soundness.proofs.places_sound.Statement.{statement}
-use Rattle.soundness.proofs.places_sound.Tie as tie
+use Rattle.soundness.proofs.places_searched.Statement.{statement}
+use Rattle.soundness.proofs.places_searched.Tie as tie
 
 abbrev rule : List ℕ → List ℕ → ℕ → Bool
 rule records files r = placedOnce (recordTables records files) (suc r)
@@ -44,8 +44,8 @@ loop-again c = (refl, search needs, rule-passed (rule _ _) _ _ (c .before .file-
 returns-2 : tie.Need-returns-2 Inv-loop μ-loop
 returns-2 c = rules-passed (rule _ _) _ _ (search needs) (search needs) (c .before .loop .inv .2)
 
-pub places-sound-spec : {M : Type 1} → statement M
-places-sound-spec =
+pub places-searched-spec : {M : Type 1} → statement M
+places-searched-spec =
     tie.close
     (tie.spec
     Inv-loop
