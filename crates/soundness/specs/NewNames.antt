@@ -1,6 +1,6 @@
 -- Whether record i of a directory is blank or has a new name, as the code finds out: the record read, and compared with another.
 use Prim.Native.Nat.{ℕ, _*_, _<_}
-use mathlib.Core.Path.{_≡_, sym}
+use mathlib.Core.Path.{_≡_, refl, sym}
 use mathlib.Core.List.{List}
 use mathlib.Core.Bool.{Bool, true, false, not}
 use Rattle.records.specs.Rows.{every}
@@ -8,7 +8,7 @@ use Rattle.records.specs.LoopLaws.{every-fail}
 use Rattle.records.specs.Numbers.{zeros}
 use Rattle.meaning.specs.Name.{entryIn, entryAt, isBlank, same}
 use Rattle.names.specs.RecordNames.{recordFrom, entry-at}
-use Rattle.soundness.specs.Rules.{newAt}
+use Rattle.soundness.specs.Rules.{newAt, namesAt}
 use Rattle.soundness.specs.Slots.{slot}
 
 -- record j has another name than record i
@@ -40,3 +40,7 @@ module _ (blocks starts : List ℕ) (i k : ℕ) (slot-is : k ≡ slot starts i) 
       pub same-old : j < i → alike ≡ true → false ≡ newAt blocks starts i
       unfolding newAt other
       same-old h e = rw (blankness, used) (sym (every-fail (other blocks starts i) j i h (rw (tested, e))))
+
+pub names-are : (blocks starts : List ℕ) (n : ℕ) → every n (newAt blocks starts) ≡ namesAt blocks starts n
+unfolding namesAt
+names-are blocks starts n = refl

@@ -1,23 +1,20 @@
 -- Every name passed is new, and the rows have the chains of the records passed; the measure is how many records are left.
-use Prim.Native.Nat.{ℕ, _+_, _-_, _*_, _≤_, _<_}
-use mathlib.Core.Path.{_≡_, refl, sym, ap, _∙_}
+use Prim.Native.Nat.{ℕ, _-_, _*_, _≤_, _<_}
+use mathlib.Core.Path.{_≡_, ap, _∙_}
 use mathlib.Core.List.{List}
 use mathlib.Core.Bool.{true}
 use native.Mathlib.Omega.{arith}
 use Rattle.records.specs.Rows.{every}
 use Rattle.records.specs.LoopLaws.{every-start}
 use Rattle.soundness.specs.RuleLoops.{rule-passed, rule-failed, rules-passed}
-use Rattle.soundness.specs.Rules.{newAt, namesAt}
+use Rattle.soundness.specs.Rules.{newAt}
+use Rattle.soundness.specs.NewNames.{names-are}
 use Rattle.soundness.specs.Slots.{slot, Within, within-less, slot-small, slot-fits}
 use Rattle.soundness.specs.Chains.{chainFrom, chainAt, Lasts, Links}
 use Rattle.soundness.specs.ChainLaws.{padded-less, chain-below, lasts-start, links-start, last-of, lasts-next, links-next}
 use borrow.Author.Needs.{needs}
 use Rattle.soundness.proofs.names_chained.Statement.{statement}
 use Rattle.soundness.proofs.names_chained.Tie as tie
-
-all : (blocks starts : List ℕ) (n : ℕ) → every n (newAt blocks starts) ≡ namesAt blocks starts n
-unfolding namesAt
-all blocks starts n = refl
 
 -- the chain read is record i's
 module _ (blocks starts : List ℕ) (i k : ℕ) (slot-is : k ≡ slot starts i) (h : ℕ) (read : h ≡ chainFrom blocks (16 * k)) where
@@ -67,7 +64,7 @@ chain-new-requires c κs =
     )
 
 returns : tie.Need-returns Inv-loop μ-loop
-returns c = let d = c .before in rule-failed (newAt _ _) _ _ (d .chain-new .ensures) _ (search needs) (c .if1 .taken) ∙ all _ _ _
+returns c = let d = c .before in rule-failed (newAt _ _) _ _ (d .chain-new .ensures) _ (search needs) (c .if1 .taken) ∙ names-are _ _ _
 
 mul-links : tie.Need-mul-links Inv-loop μ-loop
 mul-links c = search needs
@@ -107,7 +104,7 @@ loop-again c =
     )
 
 returns-2 : tie.Need-returns-2 Inv-loop μ-loop
-returns-2 c = rules-passed (newAt _ _) _ _ (search needs) (search needs) (c .before .loop .inv .1) ∙ all _ _ _
+returns-2 c = rules-passed (newAt _ _) _ _ (search needs) (search needs) (c .before .loop .inv .1) ∙ names-are _ _ _
 
 pub names-chained-spec : {M : Type 1} → statement M
 names-chained-spec =
