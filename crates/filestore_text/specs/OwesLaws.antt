@@ -1,14 +1,11 @@
 -- What is owed at the start is all that the program writes. A step through a piece does not change it, a write takes from it what is written,
 -- and the next piece is the input that it spoke of.
-use Prim.Native.Nat.{ℕ}
-use mathlib.Core.Path.{_≡_, refl, sym, ap, subst, _∙_}
-use mathlib.Core.List.{List, [], _∷_, _++_, append-assoc, append-nil}
+use Prim.Native.Nat.{ℕ, _≤_}
+use mathlib.Core.Path.{_≡_, refl, sym, ap, _∙_}
+use mathlib.Core.List.{List, [], _∷_, _++_, append-assoc}
 use mathlib.Core.Bool.{true, false}
-use native.Mathlib.Omega.{arith}
-use lib.ListN.{length, take, drop, length-take}
+use lib.ListN.{length, take, drop}
 use lib.Seq.{drop-length, drop-at, take-at, length-take-le}
-use Prim.Native.Nat.{_≤_}
-use Rattle.records.specs.Rows.{pick}
 use Rattle.meaning.specs.Tables.{Tables}
 use Rattle.text.specs.Line.{asked}
 use Rattle.text.specs.Print.{transcript, served, servedAs, newline}

@@ -1,9 +1,7 @@
 -- What is read off the line is what the line asks for.
 use Prim.Native.Nat.{ℕ}
 use mathlib.Core.List.{List}
-use mathlib.Core.Option.{Option}
 use Rattle.meaning.specs.Tables.{Tables}
-use Rattle.meaning.specs.Run.{Call}
 use Rattle.text.specs.Line.{asked}
 use Rattle.text.specs.Commands.{commanded, Reads}
 use Rattle.text.specs.Gathering.{Pends}

@@ -6,7 +6,6 @@ use mathlib.Core.Bool.{Bool, true, false}
 use native.Mathlib.Omega.{arith}
 use lib.ListN.{length}
 use Rattle.meaning.specs.Tables.{Tables}
-use Rattle.text.specs.Line.{longestLine}
 use Rattle.text.specs.Gathering.{Pends, Gathers}
 use Rattle.text.specs.declared.lines.Pending.{Pending}
 use Rattle.serving.specs.Serves.{ServesLine, lineRoom}
@@ -71,7 +70,11 @@ same-length-6 : tie.Need-same-length-6
 same-length-6 c = search needs
 
 returns : tie.Need-returns
-returns c = line-ends (c .fresh .result) (c .fresh .ensures) _ _ _ _ _ _ _ _ (c .before .before .before .before .before .before .before .before .before .before .before .before .before .before .before .before .before .before .before .before .before .before .gather .ensures) (c .before .before .before .before .before .before .before .before .before .before .before .before .before .before .before .before .before .before .if1 .taken) _ _ _ _ _ _ (c .before .before .before .before .before .before .before .before .before .before .before .serve-line .ensures)
+returns c =
+    let served = c .before .before .before .before .before .before .before .before .before .before .before in
+    let taken = served .before .before .before .before .before .before .before in
+    let gathered = taken .before .before .before .before in
+    line-ends (c .fresh .result) (c .fresh .ensures) _ _ _ _ _ _ _ _ (gathered .gather .ensures) (taken .if1 .taken) _ _ _ _ _ _ (served .serve-line .ensures)
 
 same-length-7 : tie.Need-same-length-7
 same-length-7 c = search needs

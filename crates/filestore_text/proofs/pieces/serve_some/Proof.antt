@@ -13,7 +13,6 @@ use Rattle.text.specs.declared.lines.Pending.{Pending}
 use Rattle.serving.specs.Serves.{lineRoom}
 use Rattle.filestore_text.specs.Owes.{Carries}
 use Rattle.filestore_text.specs.Steps.{Steps}
-use Rattle.filestore_text.specs.declared.pieces.Step.{Step}
 use borrow.Author.Needs.{needs}
 use Rattle.filestore_text.proofs.pieces.serve_some.Statement.{statement}
 use Rattle.filestore_text.proofs.pieces.serve_some.Tie as tie
