@@ -13,15 +13,13 @@ use text::Span;
 use text::lines::Pending;
 use text::lines::ask;
 ghost use mathlib.Core.Path.{_≡_};
-ghost use mathlib.Core.List.{List};
-ghost use Prim.Native.Nat.{ℕ, _+_, _≤_};
+ghost use Prim.Native.Nat.{_+_, _≤_};
 ghost use lib.ListN.{length};
 ghost use Rattle.meaning.specs.Run.{entered, left};
-ghost use Rattle.text.specs.Line.{asked, longestLine};
+ghost use Rattle.text.specs.Line.{longestLine};
 ghost use Rattle.text.specs.Commands.{commanded};
-ghost use Rattle.text.specs.Gathering.{Pends};
 ghost use Rattle.serving.specs.Kinds.{sorted, Servable};
-ghost use Rattle.serving.specs.Serves.{Serves, lineRoom};
+ghost use Rattle.serving.specs.Serves.{Serves, ServesLine, lineRoom};
 
 // No argument, or no call.
 pub enum Plain {
@@ -178,8 +176,7 @@ pub fn serve_line(
     requires { ⌜ longestLine ≤ length (now buffer) ⌝ }
     requires { ⌜ line .len ≤ longestLine ⌝ }
     requires { ⌜ at + lineRoom ≤ length (now out) ⌝ }
-    ensures { λ r. ⌜ ((bytes : List ℕ) → Pends bytes line (now (buffer .entry)) → Serves (asked bytes) (entered blocks «block_records» «file_records» «channel_records») (now (out .entry)) at (left blocks «block_records» «file_records» «channel_records») (now (out .exit)) r) ⌝ }
-    ensures { λ r. ⌜ r ≤ length (now (out .exit)) ⌝ }
+    ensures { λ r. ⌜ ServesLine line (now (buffer .entry)) (entered blocks «block_records» «file_records» «channel_records») (now (out .entry)) at (left blocks «block_records» «file_records» «channel_records») (now (out .exit)) r ⌝ }
 {
     let command = ask(buffer, line);
     serve(

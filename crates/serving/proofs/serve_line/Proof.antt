@@ -1,30 +1,22 @@
 -- What is read off the line is what the line asks for.
-use Prim.Native.Nat.{ℕ, _≤_}
-use mathlib.Core.Path.{_≡_}
+use Prim.Native.Nat.{ℕ}
 use mathlib.Core.List.{List}
-use mathlib.Core.Option.{Option}
-use lib.ListN.{length}
 use Rattle.meaning.specs.Tables.{Tables}
-use Rattle.meaning.specs.Run.{Call}
 use Rattle.text.specs.Line.{asked}
 use Rattle.text.specs.Commands.{commanded, Reads}
 use Rattle.text.specs.Gathering.{Pends}
 use Rattle.text.specs.declared.lines.Pending.{Pending}
 use Rattle.text.specs.declared.Command.{Command}
-use Rattle.serving.specs.Serves.{Serves}
+use Rattle.serving.specs.Serves.{Serves, ServesLine}
 use Rattle.serving.specs.Pending.{asked-servable}
 use borrow.Author.Needs.{needs}
 use Rattle.serving.proofs.serve_line.Statement.{statement}
 use Rattle.serving.proofs.serve_line.Tie as tie
 
-module _ (call : Option Call) (t t′ : Tables) (out : List ℕ) (at : ℕ) (after : List ℕ) (next : ℕ) (s : Serves call t out at t′ after next) where
-  still-within : next ≤ length after
-  still-within = s .lays .fits
-
 of-line : (buffer : List ℕ) (command : Command) (p : Pending) → ((bytes : List ℕ) → Pends bytes p buffer → Reads buffer command (asked bytes))
     → (t t′ : Tables) (out : List ℕ) (at : ℕ) (after : List ℕ) (next : ℕ) → Serves (commanded buffer command) t out at t′ after next
-    → (bytes : List ℕ) → Pends bytes p buffer → Serves (asked bytes) t out at t′ after next
-of-line buffer command p f t t′ out at after next s bytes pends = rw (f bytes pends .means) at s
+    → ServesLine p buffer t out at t′ after next
+of-line buffer command p f t t′ out at after next s = record { serves = λ bytes pends. rw (f bytes pends .means) at s; fits = s .lays .fits }
 
 ask-requires : tie.Need-ask-requires
 ask-requires c κs = search needs
@@ -48,7 +40,7 @@ same-length-5 : tie.Need-same-length-5
 same-length-5 c = search needs
 
 returns : tie.Need-returns
-returns c = (search of-line, search still-within)
+returns c = search of-line
 
 pub serve-line-spec : {M : Type 1} → statement M
 serve-line-spec =
