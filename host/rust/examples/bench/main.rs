@@ -45,7 +45,14 @@ fn soundness() {
     println!("\n| Store | Bytes to read | room | model | ratio | one pass |");
     println!("|---|--:|--:|--:|--:|--:|");
     for (store, memory) in [
-        ("1 block, 1 file, 1 channel", Memory::prepared(1, 1, 1)),
+        (
+            "empty: 1 block, 1 file, 1 channel",
+            Memory::prepared(1, 1, 1),
+        ),
+        (
+            "empty: 128 blocks, 64 files, 16 channels",
+            Memory::prepared(128, 64, 16),
+        ),
         ("middling, 40 names", stores::middling()),
         ("largest, 96 names", stores::largest()),
         ("a directory of 2,048 names", stores::long_directory()),
