@@ -7,7 +7,7 @@ use mathlib.Core.Bool.{Bool, true, false, true≢false}
 use native.Mathlib.Omega.{arith}
 use lib.ListN.{length}
 use Rattle.records.specs.Rows.{pick}
-use Rattle.records.specs.Tests.{tested, same-or-not, not-false-true}
+use Rattle.records.specs.Tests.{tested, same-or-not, not-so}
 use Rattle.meaning.specs.File.{longest}
 use Rattle.meaning.specs.Store.{Store, File, file, after, noFile, ordinary, root, inUse, isDirectory, names, held, isOrphan, letGo}
 use Rattle.soundness.specs.Use.{used, directory-kind, not-directory}
@@ -56,7 +56,7 @@ module _ (s : Store) (w : Well s) (f : ℕ) (bytes : List ℕ) where
 
 module _ (s : Store) (w : Well s) (g : ℕ) (x : File) (some : 0 < g) (within : g ≤ s .fileCount) (free : s .file g .kind ≡ 0) where
   not-used : inUse s g ≡ false
-  not-used = not-false-true (inUse s g) (λ e. let u = used s g e in u .kind free)
+  not-used = not-so (inUse s g) (λ e. let u = used s g e in u .kind free)
 
   pub made-unnamed : names s g ≡ 0
   made-unnamed = unused-unnamed s g (shape s w) (omega arith) not-used

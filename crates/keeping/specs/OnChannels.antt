@@ -10,7 +10,7 @@ use lib.ListN.{length}
 use lib.Dec.{ltb, eqb}
 use borrow.Author.Tests.{ltb-true, ltb-false, eqb-true, not-false}
 use Rattle.records.specs.RowLaws.{lowest-hit}
-use Rattle.records.specs.Tests.{and-left, or-right, same-or-not, not-false-true}
+use Rattle.records.specs.Tests.{and-left, or-right, same-or-not, not-so}
 use Rattle.meaning.specs.File.{readFILE}
 use Rattle.meaning.specs.FileLaws.{length-read}
 use Rattle.meaning.specs.Name.{syllables}
@@ -109,7 +109,7 @@ module _ (s : Store) (w : Well s) (z : Sized s) where
       let to = seekTo mode (s .channel c .posn) (length (s .file (s .channel c .file) .bytes)) n in
       on-channel s c _ λ is.
       past s (ltb 5 mode || ltb lastPosition to) BadSeek _ λ e.
-      goes c to is (ltb-false lastPosition to (not-false-true (ltb lastPosition to) (λ t. true≢false (sym (or-right (ltb 5 mode) (ltb lastPosition to) t) ∙ e))))
+      goes c to is (ltb-false lastPosition to (not-so (ltb lastPosition to) (λ t. true≢false (sym (or-right (ltb 5 mode) (ltb lastPosition to) t) ∙ e))))
 
   pub good-fstat : (c : ℕ) → Good s (fstat c s)
   unfolding fstat

@@ -11,7 +11,7 @@ use lib.Dec.{eqb}
 use borrow.Author.Tests.{eq-eqb, not-false}
 use Rattle.records.specs.Rows.{tally, every}
 use Rattle.records.specs.RowLaws.{every-all}
-use Rattle.records.specs.Tests.{or-left, or-right, not-false-true}
+use Rattle.records.specs.Tests.{or-left, or-right, not-so}
 use Rattle.meaning.specs.File.{needed, longest}
 use Rattle.meaning.specs.Name.{syllables, blankRecord, recordCount, isBlank, isEmpty}
 use Rattle.meaning.specs.Store.{Store, Change, file, afterAll, noFile, root, isDirectory, freeBlocks, named, held, letGo, last}
@@ -155,7 +155,7 @@ module _ (s : Store) (w : Well s) (z : Sized s) where
       past s (not (isEmpty (s .file f .bytes))) NotEmpty _ λ empty.
       let other : f ≢ root = λ e. true≢false (sym (or-left (eqb f root) (held s f) (eq-eqb f root e)) ∙ free) in
       rmdir-sure n (other-standing s w z bytes n is there other) (not-false (isDirectory s f) directory)
-      (not-false-true (held s f) (λ h. true≢false (sym (or-right (eqb f root) (held s f) h) ∙ free)))
+      (not-so (held s f) (λ h. true≢false (sym (or-right (eqb f root) (held s f) h) ∙ free)))
       (not-false (isEmpty (s .file f .bytes)) empty)
 
 pub good-move : (s : Store) → Well s → Sized s → (old new : List ℕ) → Good s (move old new s)

@@ -7,7 +7,7 @@ use native.Mathlib.Omega.{arith}
 use lib.ListN.{length}
 use lib.Dec.{eqb}
 use borrow.Author.Tests.{eqb-false}
-use Rattle.records.specs.Tests.{not-false-true}
+use Rattle.records.specs.Tests.{not-so}
 use Rattle.meaning.specs.File.{writeFILE, needed, longest}
 use Rattle.meaning.specs.FileLaws.{length-write}
 use Rattle.meaning.specs.Store.{Store, file, channel, after, noChannel, channelTo, ordinary, isDirectory, isOpen, freeBlocks, letGo}
@@ -71,5 +71,5 @@ module _ (s : Store) (w : Well s) (z : Sized s) where
       past s (eqb (old .kind) 2) IsDirectory _ λ kind.
       if-fits s (length (old .bytes)) (length new) _ λ short room.
       written-sure c new (y .posn + length bytes) is
-      (not-false-true (isDirectory s (y .file)) (λ directory. eqb-false (old .kind) 2 kind (directory-kind s (y .file) directory)))
+      (not-so (isDirectory s (y .file)) (λ directory. eqb-false (old .kind) 2 kind (directory-kind s (y .file) directory)))
       short room (omega (arith, length-write (old .bytes) (y .posn) bytes))

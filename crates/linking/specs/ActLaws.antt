@@ -3,7 +3,7 @@ use Prim.Native.Nat.{ℕ, _-_, _<_}
 use mathlib.Core.Path.{_≡_, refl, sym, ap, subst, _∙_}
 use mathlib.Core.Logic.{_≢_, ⊎-elim}
 use mathlib.Core.List.{List, [], _∷_}
-use mathlib.Core.Bool.{Bool, true, false, not, _&&_, true≢false}
+use mathlib.Core.Bool.{Bool, true, false, not, _&&_, true≢false, and-true}
 use mathlib.Core.Option.{some}
 use native.Mathlib.Omega.{arith}
 use lib.ListN.{length}
@@ -39,10 +39,6 @@ use Rattle.placing.specs.Free.{sized}
 use Rattle.linking.specs.LinkRest.{link-on}
 use Rattle.linking.specs.Act.{goes, freed, linkChanges, Linkable}
 use Rattle.linking.specs.declared.Plan.{Plan}
-
-and-true : (t : Bool) → t && true ≡ t
-and-true true = refl
-and-true false = refl
 
 module _ (t : Tables) (old new : List ℕ) (p : Plan) (a : Accepted t old new p) where
   abbrev pub s : Store

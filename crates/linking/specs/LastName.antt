@@ -3,7 +3,7 @@ use Prim.Native.Nat.{ℕ, _+_}
 use mathlib.Core.Path.{_≡_, refl, sym, ap, _∙_}
 use mathlib.Core.Logic.{_≢_, ⊎-elim}
 use mathlib.Core.List.{List}
-use mathlib.Core.Bool.{Bool, true, false, not, _&&_, true≢false}
+use mathlib.Core.Bool.{Bool, true, false, not, _&&_, true≢false, and-true}
 use native.Mathlib.Omega.{arith}
 use lib.Dec.{eqb}
 use borrow.Author.Tests.{eq-eqb, ne-eqb}
@@ -92,10 +92,6 @@ module _ (t : Tables) (old new : List ℕ) (p : Plan) (a : Accepted t old new p)
       let more : names after-link f ≢ 1 = omega (arith, count-names, names-less s (L.well t old new p a) from (M.standing-from t old new p a)) in
       rw (ne-eqb (names after-link f) 1 more) (sym (last-is ∙ rw (ne-eqb g f n) (and-false (lone s g)))))
       (same-or-not g f)
-    where
-      and-true : (b : Bool) → b && true ≡ b
-      and-true true = refl
-      and-true false = refl
 
   pub last-orphan : isOrphan (withoutName after-link from) f ≡ lastGoes p
   last-orphan =

@@ -12,7 +12,7 @@ use borrow.Author.Tests.{eq-eqb, ne-eqb, eqb-true, eqb-false, not-true}
 use Rattle.records.specs.Rows.{every}
 use Rattle.records.specs.Numbers.{one, twoBytes, zeros}
 use Rattle.records.specs.RowLaws.{lowest-hit, lowest-misses, every-all, every-cong, lowest-is}
-use Rattle.records.specs.Tests.{and-left, and-right, test-both}
+use Rattle.records.specs.Tests.{and-left, and-right, both-ways}
 use Rattle.records.specs.RecordLaws.{sets-append}
 use Rattle.meaning.specs.Name.{same, entry, written, nameEnd, entryIn, recordAt, entryAt}
 use Rattle.names.specs.SameLaws.{same-is, is-same, not-same}
@@ -132,7 +132,7 @@ module _ (r s : List ℕ) (size : length r ≡ 16) where
     pub names-end : length s < 14 → same (entryIn r .name) s ≡ eqb (one r (2 + length s)) 0
     unfolding nameEnd
     names-end l =
-        test-both (same (entryIn r .name) s) (eqb (one r (2 + length s)) 0)
+        both-ways (same (entryIn r .name) s) (eqb (one r (2 + length s)) 0)
         (λ t.
         let end : nameEnd r ≡ length s = same-end (same-is (entryIn r .name) s t) in
         rw end at (lowest-hit 14 (λ i. eqb (one r (2 + i)) 0) (rw end l)))

@@ -5,7 +5,7 @@ use mathlib.Core.List.{List, [], _∷_}
 use mathlib.Core.Bool.{true, false, true≢false}
 use lib.Dec.{eqb}
 use borrow.Author.Tests.{eq-eqb, eqb-true}
-use Rattle.records.specs.Tests.{and-left, and-right, not-false-true}
+use Rattle.records.specs.Tests.{and-left, and-right, not-so}
 use Rattle.meaning.specs.Name.{same}
 
 pub same-is : (xs ys : List ℕ) → same xs ys ≡ true → xs ≡ ys
@@ -25,4 +25,4 @@ pub is-same : (xs ys : List ℕ) → xs ≡ ys → same xs ys ≡ true
 is-same xs ys e = rw e (same-self ys)
 
 pub not-same : (xs ys : List ℕ) → (xs ≡ ys → ⊥) → same xs ys ≡ false
-not-same xs ys h = not-false-true (same xs ys) (λ e. h (same-is xs ys e))
+not-same xs ys h = not-so (same xs ys) (λ e. h (same-is xs ys e))

@@ -14,14 +14,14 @@ tested true = inl refl
 tested false = inr refl
 
 -- a test that does not pass fails
-pub not-false-true : (t : Bool) → t ≢ true → t ≡ false
-not-false-true true h = absurd (h refl)
-not-false-true false h = refl
+pub not-so : (t : Bool) → t ≢ true → t ≡ false
+not-so true h = absurd (h refl)
+not-so false h = refl
 
 -- two tests that pass together are equal
-pub test-both : (s t : Bool) → (s ≡ true → t ≡ true) → (t ≡ true → s ≡ true) → s ≡ t
-test-both true t f g = sym (f refl)
-test-both false t f g = sym (not-false-true t (λ e. true≢false (sym (g e))))
+pub both-ways : (s t : Bool) → (s ≡ true → t ≡ true) → (t ≡ true → s ≡ true) → s ≡ t
+both-ways true t f g = sym (f refl)
+both-ways false t f g = sym (not-so t (λ e. true≢false (sym (g e))))
 
 pub and-left : (s t : Bool) → s && t ≡ true → s ≡ true
 and-left true t e = refl

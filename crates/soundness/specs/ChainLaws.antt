@@ -11,12 +11,11 @@ use Rattle.records.specs.Rows.{every}
 use Rattle.records.specs.RowLaws.{every-all, all-every}
 use Rattle.records.specs.NumberLaws.{zeros-zero}
 use Rattle.records.specs.Numbers.{one, zeros}
-use Rattle.records.specs.Tests.{and-right, lt-or-ge, same-or-not}
+use Rattle.records.specs.Tests.{and-right, lt-or-ge, same-or-not, not-so}
 use Rattle.meaning.specs.Name.{entryIn, nameEnd, isBlank, isWritten, isSyllable, same}
 use Rattle.meaning.specs.Store.{Store}
 use Rattle.meaning.specs.Sound.{recordSound}
 use Rattle.names.specs.RecordNames.{recordFrom, record-at, entry-at}
-use Rattle.soundness.specs.Use.{not-so}
 use Rattle.soundness.specs.Well.{RecordForm, as-blank, as-naming}
 use Rattle.soundness.specs.FormLaws.{record-form}
 use Rattle.soundness.specs.Rules.{recordsAt}

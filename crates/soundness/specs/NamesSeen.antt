@@ -7,12 +7,11 @@ use native.Mathlib.Omega.{arith}
 use lib.ListN.{getD}
 use Rattle.records.specs.Rows.{every}
 use Rattle.records.specs.RowLaws.{every-all, all-every, every-cong}
-use Rattle.records.specs.Tests.{both, and-both}
+use Rattle.records.specs.Tests.{both, and-both, both-ways}
 use Rattle.meaning.specs.Name.{recordCount, entryAt}
 use Rattle.meaning.specs.Store.{Store, inUse, isDirectory, names, held}
 use Rattle.meaning.specs.Tables.{Tables, tables, storeOf, fileOf, channelOf, byteOf, fileCount}
 use Rattle.meaning.specs.Sound.{recordSound, nameNew, directoriesSound, oneDeeper, isNamed}
-use Rattle.soundness.specs.Use.{both-ways}
 use Rattle.soundness.specs.Rules.{deeperThan, isNamedBy, namedBy, allNamedBy}
 use Rattle.soundness.specs.Seen.{filesStore, channelsStore, inUse-seen, isDirectory-seen, depth-seen}
 use Rattle.soundness.specs.Slots.{directoriesStore}

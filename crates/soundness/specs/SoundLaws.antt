@@ -7,14 +7,13 @@ use native.Mathlib.Omega.{arith}
 use Rattle.records.specs.Rows.{allOf, every}
 use Rattle.records.specs.RowLaws.{every-all, every-cong}
 use Rattle.records.specs.Numbers.{zeros}
-use Rattle.records.specs.Tests.{both, and-both, allOf-true, true-allOf}
+use Rattle.records.specs.Tests.{both, and-both, allOf-true, true-allOf, both-ways}
 use Rattle.records.specs.ListLaws.{length-listOf}
 use Rattle.meaning.specs.File.{longest}
 use Rattle.meaning.specs.Tables.{Tables, tables, storeOf, fileOf, byteOf, blockCount, fileCount, lengthAt}
 use Rattle.meaning.specs.Sound.{lengthsAgree, zerosStand, blockSound, placedOnce, blocksSound, layoutSound, fileSound, filesSound}
 use Rattle.layout.specs.Layout.{Layout, layout}
 use Rattle.layout.specs.Places.{block-there}
-use Rattle.soundness.specs.Use.{both-ways}
 use Rattle.soundness.specs.FormLaws.{file-sound}
 use Rattle.soundness.specs.WellFacts.{form-size}
 use Rattle.soundness.specs.Seen.{filesStore, recordTables, filesSound-seen, blockSound-seen}

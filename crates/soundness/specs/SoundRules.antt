@@ -4,10 +4,9 @@ use mathlib.Core.Path.{_≡_, sym, _∙_}
 use mathlib.Core.List.{List, [], _∷_}
 use mathlib.Core.Bool.{Bool, _&&_}
 use Rattle.records.specs.Rows.{allOf, every}
-use Rattle.records.specs.Tests.{both, and-both, allOf-true, true-allOf}
+use Rattle.records.specs.Tests.{both, and-both, allOf-true, true-allOf, both-ways}
 use Rattle.meaning.specs.Tables.{Tables, storeOf}
 use Rattle.meaning.specs.Sound.{layoutSound, filesSound, channelsSound, directoriesSound, isNamed, namesSound, wellFormed, sound}
-use Rattle.soundness.specs.Use.{both-ways}
 use Rattle.soundness.specs.Seen.{channelsStore, channelsSound-seen}
 use Rattle.soundness.specs.Slots.{directoriesStore}
 use Rattle.soundness.specs.DirectoryRules.{directoriesRule}

@@ -20,16 +20,6 @@ three a b c e = let l = and-left (a && b) c e in (and-left a b l, and-right a b 
 pub four : (a b c d : Bool) → a && b && c && d ≡ true → (a ≡ true) × (b ≡ true) × (c ≡ true) × (d ≡ true)
 four a b c d e = let l = three a b c (and-left (a && b && c) d e) in (l .0, l .1, l .2, and-right (a && b && c) d e)
 
--- a test that cannot pass fails
-pub not-so : (t : Bool) → (t ≡ true → ⊥) → t ≡ false
-not-so true h = absurd (h refl)
-not-so false h = refl
-
--- two tests that pass together are equal
-pub both-ways : (s t : Bool) → (s ≡ true → t ≡ true) → (t ≡ true → s ≡ true) → s ≡ t
-both-ways true t f g = sym (f refl)
-both-ways false t f g = sym (not-so t (λ e. true≢false (sym (g e))))
-
 -- a rule for those that pass a test
 pub implied : (a b : Bool) → not a || b ≡ true → a ≡ true → b ≡ true
 implied true b e h = e

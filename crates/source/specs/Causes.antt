@@ -8,10 +8,9 @@ use lib.Dec.{ltb, eqb}
 use borrow.Author.Tests.{eq-eqb, ne-eqb, lt-ltb, le-ltb, ltb-false, not-true}
 use Rattle.records.specs.Rows.{lowest}
 use Rattle.records.specs.RowLaws.{lowest-within, lowest-hit, lowest-misses}
-use Rattle.records.specs.Tests.{both, and-both, and-false, lt-or-ge}
+use Rattle.records.specs.Tests.{both, and-both, and-false, lt-or-ge, not-so}
 use Rattle.meaning.specs.Store.{Store, isDirectory, isOpen, freeChannel, named, front}
 use Rattle.meaning.specs.Result.{missing, nowhere, allOpen}
-use Rattle.soundness.specs.Use.{not-so}
 use Rattle.trees.specs.Standing.{missing-none, missing-some}
 use Rattle.source.specs.Sets.{_∈dom_, _∉dom_}
 use Rattle.source.specs.Naming.{NAME}

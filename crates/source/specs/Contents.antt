@@ -9,7 +9,7 @@ use native.Mathlib.Omega.{arith}
 use lib.ListN.{length, length-append}
 use lib.Seq.{take-at, getD-at}
 use borrow.Author.Tests.{not-false}
-use Rattle.records.specs.Tests.{not-false-true}
+use Rattle.records.specs.Tests.{not-so}
 use Rattle.meaning.specs.Name.{recordCount, isBlank, entryAt, nameCount, listing}
 use Rattle.meaning.specs.Store.{Store, afterAll, isDirectory, within, named, front, last}
 use Rattle.meaning.specs.NameCalls.{ls}
@@ -80,7 +80,7 @@ module _ (s : Store) (ready : Ready s) (dir : NAME) (is : isDirectory s (named s
           let same : q .d ≡ d = q-in ∙ ap (named s) (c .lies) in
           let h : q .i < recordCount bytes = rw same at (q .within) in
           let file : entryAt bytes (q .i) .file ≡ named s (c .name) = rw same at (q .file) in
-          let used : isBlank bytes (q .i) ≡ false = not-false-true (isBlank bytes (q .i)) (λ b. there (sym file ∙ blank-file bytes (q .i) b)) in
+          let used : isBlank bytes (q .i) ≡ false = not-so (isBlank bytes (q .i)) (λ b. there (sym file ∙ blank-file bytes (q .i) b)) in
           let name : entryAt bytes (q .i) .name ≡ last (c .name) = rw same at q-last in
           let (j, l, row) = record-row bytes whole (q .i) h used in
           record { row = j; within = l; is = row ∙ name ∙ c .ends }

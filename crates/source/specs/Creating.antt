@@ -8,11 +8,11 @@ use mathlib.Core.Option.{Option, some, Option·none-ne-some}
 use native.Mathlib.Omega.{arith}
 use borrow.Author.Tests.{eq-eqb}
 use lib.ListN.{length}
-use Rattle.records.specs.Tests.{tested}
+use Rattle.records.specs.Tests.{tested, not-so}
 use Rattle.meaning.specs.Store.{Store, Channel, file, channel, after, afterAll, channelTo, ordinary, inUse, isDirectory, freeFile, freeChannel, named, front}
 use Rattle.meaning.specs.Result.{missing, allOpen, ifFits}
 use Rattle.meaning.specs.NameCalls.{parent, create, ifNamingFits}
-use Rattle.soundness.specs.Use.{used, directory-kind, not-so}
+use Rattle.soundness.specs.Use.{used, directory-kind}
 use Rattle.trees.specs.Standing.{Place, missing-none, last-spelled}
 use Rattle.trees.specs.Naming.{withName}
 use Rattle.keeping.specs.NewFiles.{FreeNumber, free-number}

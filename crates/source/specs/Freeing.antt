@@ -9,9 +9,9 @@ use lib.Dec.{eqb}
 use borrow.Author.Tests.{eqb-true, ne-eqb, ltb-true, lt-ltb}
 use Rattle.records.specs.Rows.{lowest, howMany}
 use Rattle.records.specs.RowLaws.{some-lowest, lowest-hit}
-use Rattle.records.specs.Tests.{tested, same-or-not}
+use Rattle.records.specs.Tests.{tested, same-or-not, not-so}
 use Rattle.meaning.specs.Store.{Store, file, after, afterAll, noFile, root, inUse, isDirectory, isOpen, named, names, held, isOrphan, letGo}
-use Rattle.soundness.specs.Use.{used, directory-kind, not-so}
+use Rattle.soundness.specs.Use.{used, directory-kind}
 use Rattle.trees.specs.LetGo.{Orphan, let-going}
 use Rattle.keeping.specs.References.{not-held}
 use Rattle.source.specs.Sets.{_∈dom_, _⩤_, the}

@@ -7,7 +7,7 @@ use mathlib.Core.Bool.{true, false}
 use mathlib.Core.Option.{some}
 use native.Mathlib.Omega.{arith}
 use lib.ListN.{length, length-take}
-use Rattle.records.specs.Tests.{not-false-true}
+use Rattle.records.specs.Tests.{not-so}
 use Rattle.meaning.specs.Name.{mostSyllables, recordCount, isBlank, entryAt, recordNamed, inDirectory}
 use Rattle.meaning.specs.Store.{Store, afterAll, root, inUse, isDirectory, within, named, front, last}
 use Rattle.meaning.specs.Tables.{storeOf}
@@ -90,7 +90,7 @@ module _ (s : Store) (w : Well s) (some-file : 0 < s .fileCount) where
       let i = recordNamed dir syllable in
       let found : i < recordCount dir = in-some dir syllable (λ z. there (at ∙ z)) in
       let its : within s d syllable ≡ entryAt dir i .file = at ∙ in-found dir syllable found in
-      let used : isBlank dir i ≡ false = not-false-true (isBlank dir i) (λ b. there (its ∙ blank-file dir i b)) in
+      let used : isBlank dir i ≡ false = not-so (isBlank dir i) (λ b. there (its ∙ blank-file dir i b)) in
       rw its (naming-record s w d i is found used .in-use)
 
   pub name-used : (name : NAME) → named s name ≢ 0 → inUse s (named s name) ≡ true

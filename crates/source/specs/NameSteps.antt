@@ -9,11 +9,11 @@ use mathlib.Core.Option.{none, some}
 use native.Mathlib.Omega.{arith}
 use lib.ListN.{length}
 use Rattle.records.specs.Rows.{pick}
-use Rattle.records.specs.Tests.{not-false-true}
+use Rattle.records.specs.Tests.{not-so}
 use Rattle.meaning.specs.Name.{Entry, entry, isSyllable, written, entryIn, blankRecord, isBlank}
 use Rattle.meaning.specs.Store.{Store, File, inUse, isDirectory, named, last}
 use Rattle.meaning.specs.NameCalls.{parent, recordFor, rewritten, naming, unnaming}
-use Rattle.soundness.specs.Use.{directory-used, not-so}
+use Rattle.soundness.specs.Use.{directory-used}
 use Rattle.soundness.specs.Well.{Well}
 use Rattle.soundness.specs.WellFacts.{blank-file, naming-record}
 use Rattle.trees.specs.Rewrite.{Rewriting, withRecord, other-file, kind-same, use-same, directory-same}
@@ -119,7 +119,7 @@ last-syllable : (s : Store) → Well s → (m : NAME) → 0 < length m → named
 last-syllable s w m more there =
     let (q, q-in, q-last) = record-of s (named s m) m more refl there in
     let dir = s .file (q .d) .bytes in
-    let used : isBlank dir (q .i) ≡ false = not-false-true (isBlank dir (q .i)) (λ b. there (sym (q .file) ∙ blank-file dir (q .i) b)) in
+    let used : isBlank dir (q .i) ≡ false = not-so (isBlank dir (q .i)) (λ b. there (sym (q .file) ∙ blank-file dir (q .i) b)) in
     rw q-last at (naming-syllable s dir (q .i) (naming-record s w (q .d) (q .i) (q .directory) (q .within) used))
 
 module _ (s : Store) (w : Well s) (n : NAME) (more : 0 < length n) (p : Place s n) (plain : isDirectory s (named s n) ≡ false) where

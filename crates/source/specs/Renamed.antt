@@ -6,7 +6,7 @@ use mathlib.Core.List.{List, [], _∷_, _++_}
 use mathlib.Core.Bool.{true, false, true≢false}
 use native.Mathlib.Omega.{arith}
 use lib.ListN.{length, length-take}
-use Rattle.records.specs.Tests.{same-or-not, not-false-true}
+use Rattle.records.specs.Tests.{same-or-not, not-so}
 use Rattle.meaning.specs.Name.{Entry, entryIn, recordCount, isBlank, entryAt, recordNamed, inDirectory, withEntry}
 use Rattle.meaning.specs.Store.{Store, File, isDirectory, within, named, front, last}
 use Rattle.meaning.specs.NameCalls.{parent, recordFor}
@@ -137,7 +137,7 @@ module _ (s : Store) (w : Well s) (n : NAME) (also : 0 < length n) (r : List ℕ
         let old : entryAt dir′ j ≡ entryAt dir j = entry-other dir r (recordCount dir) i (z .whole) (z .size) (z .within) j o in
         let below : j < recordCount dir = omega arith in
         let was : entryAt dir j .file ≢ 0 = λ q. there (ap (λ (e : Entry). e .file) old ∙ q) in
-        let used : isBlank dir j ≡ false = not-false-true (isBlank dir j) (λ b. was (blank-file dir j b)) in
+        let used : isBlank dir j ≡ false = not-so (isBlank dir j) (λ b. was (blank-file dir j b)) in
         let own : recordNamed dir (entryAt dir j .name) ≡ j = well-tree s w .own d j (z .directory) below was in
         ap (λ (e : Entry). recordNamed dir′ (e .name)) old
         ∙ named-kept dir r (recordCount dir) i (z .whole) (z .size) (z .within) (entryAt dir j .name) (rw own below) (rw own o) (λ q. k .fresh j below o used (sym q))

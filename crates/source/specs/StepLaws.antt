@@ -6,9 +6,9 @@ use mathlib.Core.Bool.{true, false, _&&_, true≢false}
 use mathlib.Core.Option.{none, some}
 use lib.Dec.{leb, ltb}
 use borrow.Author.Tests.{eq-eqb, ne-eqb, lt-ltb}
-use Rattle.records.specs.Tests.{and-false, same-or-not}
+use Rattle.records.specs.Tests.{and-false, same-or-not, not-so}
 use Rattle.meaning.specs.Store.{Store, File, Channel, file, channel, after, inUse, isDirectory, isOpen, named}
-use Rattle.soundness.specs.Use.{of-used, directory-kind, not-so}
+use Rattle.soundness.specs.Use.{of-used, directory-kind}
 use Rattle.trees.specs.AfterFile.{file-changed, file-other}
 use Rattle.trees.specs.Lookups.{named-cong}
 use Rattle.source.specs.Sets.{_⊕_, _⩤_, _⟼_, the}

@@ -6,7 +6,7 @@ use mathlib.Core.List.{List, [], _∷_, _++_}
 use mathlib.Core.Bool.{true, false, true≢false}
 use native.Mathlib.Omega.{arith}
 use lib.ListN.{length, length-take}
-use Rattle.records.specs.Tests.{same-or-not, not-false-true}
+use Rattle.records.specs.Tests.{same-or-not, not-so}
 use Rattle.names.specs.SameLaws.{is-same}
 use Rattle.meaning.specs.Name.{recordCount, isBlank, entryAt, recordNamed, inDirectory}
 use Rattle.meaning.specs.Store.{Store, root, isDirectory, within, named, front, last, names}
@@ -70,7 +70,7 @@ module _ (s : Store) (w : Well s) where
   own-record d i is h there =
       let dir = s .file d .bytes in
       let name = entryAt dir i .name in
-      let used : isBlank dir i ≡ false = not-false-true (isBlank dir i) (λ b. there (blank-file dir i b)) in
+      let used : isBlank dir i ≡ false = not-so (isBlank dir i) (λ b. there (blank-file dir i b)) in
       named-is dir name i (omega arith)
       (λ j (l : j < i) (e : entryAt dir j .name ≡ name). true≢false (sym (is-same (entryAt dir j .name) name e) ∙ w .distinct d j i is l h used))
       (λ l. refl)

@@ -8,11 +8,12 @@ use mathlib.Core.Option.{some}
 use native.Mathlib.Omega.{arith}
 use lib.ListN.{length}
 use borrow.Author.Tests.{eqb-false, not-false}
+use Rattle.records.specs.Tests.{not-so}
 use Rattle.meaning.specs.File.{writeFILE}
 use Rattle.meaning.specs.Store.{Store, Channel, file, channel, after, afterAll, channelTo, ordinary, isDirectory, isOpen}
 use Rattle.meaning.specs.Result.{onChannel, ifFits}
 use Rattle.meaning.specs.ChannelCalls.{write}
-use Rattle.soundness.specs.Use.{used, directory-kind, not-so}
+use Rattle.soundness.specs.Use.{used, directory-kind}
 use Rattle.source.specs.Sets.{_∈dom_, _⊕_, _⟼_, the}
 use Rattle.source.specs.Filing.{writeFS}
 use Rattle.source.specs.View.{chanOf, view}

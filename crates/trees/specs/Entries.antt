@@ -10,7 +10,7 @@ use lib.Dec.{eqb}
 use borrow.Author.Tests.{eq-eqb}
 use Rattle.records.specs.Numbers.{one, zeros}
 use Rattle.records.specs.NumberLaws.{zeros-zero, zero-zeros}
-use Rattle.records.specs.Tests.{and-left, lt-or-ge, not-false-true}
+use Rattle.records.specs.Tests.{and-left, lt-or-ge, not-so}
 use Rattle.records.specs.RowLaws.{lowest-is}
 use Rattle.meaning.specs.FileLaws.{byte-past}
 use Rattle.meaning.specs.Name.{isSyllable, isWritten, nameEnd, entryIn, recordCount, recordAt, isBlank, entryAt, recordNamed, inDirectory}
@@ -43,7 +43,7 @@ not-empty name is e = let some = syllable-some name is in omega (arith, ap lengt
 
 -- so a record with a syllable for a name is not blank
 pub not-blank : (dir : List ℕ) (i : ℕ) (name : List ℕ) → isSyllable name ≡ true → entryAt dir i .name ≡ name → isBlank dir i ≡ false
-not-blank dir i name is e = not-false-true (isBlank dir i) (λ b. not-empty name is (sym e ∙ blank-name dir i b))
+not-blank dir i name is e = not-so (isBlank dir i) (λ b. not-empty name is (sym e ∙ blank-name dir i b))
 
 -- what is written by the rule has a syllable for a name
 pub written-syllable : (r : List ℕ) → isWritten r ≡ true → isSyllable (entryIn r .name) ≡ true

@@ -8,7 +8,7 @@ use native.Mathlib.Omega.{arith}
 use lib.Dec.{eqb}
 use borrow.Author.Tests.{eqb-true, not-true}
 use Rattle.records.specs.Rows.{pick}
-use Rattle.records.specs.Tests.{same-or-not, not-false-true}
+use Rattle.records.specs.Tests.{same-or-not, not-so}
 use Rattle.meaning.specs.Store.{Store, File, file, after, afterAll, noFile, inUse, isDirectory, named, names, held, isOrphan, letGo}
 use Rattle.soundness.specs.Use.{four, directory-kind}
 use Rattle.trees.specs.AfterFile.{file-changed, file-other, same-directory}
@@ -52,9 +52,9 @@ module _ (s : Store) (g : ℕ) where
     gone-directory f =
         ⊎-elim
         (λ (e : f ≡ g). rw e (
-        not-false-true (isDirectory (after s (file g noFile)) g)
+        not-so (isDirectory (after s (file g noFile)) g)
         (λ is. let k = directory-kind (after s (file g noFile)) g is in absurd (omega (arith, ap (λ (x : File). x .kind) (file-changed s g noFile))))
-        ∙ sym (not-false-true (isDirectory s g) (λ is. absurd (omega (arith, directory-kind s g is, o .kind))))))
+        ∙ sym (not-so (isDirectory s g) (λ is. absurd (omega (arith, directory-kind s g is, o .kind))))))
         (λ (n : f ≢ g). same-directory s (after s (file g noFile)) refl f (ap (λ (x : File). x .kind) (file-other s g noFile f n)))
         (same-or-not f g)
 

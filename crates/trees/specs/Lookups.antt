@@ -6,7 +6,7 @@ use mathlib.Core.List.{List, [], _∷_, reverse}
 use mathlib.Core.Bool.{Bool, true, false, true≢false}
 use native.Mathlib.Omega.{arith}
 use lib.ListN.{length}
-use Rattle.records.specs.Tests.{same-or-not, not-false-true}
+use Rattle.records.specs.Tests.{same-or-not, not-so}
 use Rattle.meaning.specs.Name.{entryIn, recordCount, isBlank, entryAt, recordNamed, inDirectory, withEntry}
 use Rattle.meaning.specs.Store.{Store, isDirectory, within, namedBack, named, front, last}
 use Rattle.meaning.specs.NameCalls.{parent}
@@ -89,7 +89,7 @@ module _ (s : Store) (d i : ℕ) (r : List ℕ) (k : KeepsDirectories s d i r) w
       let found : j < recordCount dir = in-some dir name (λ z. omega (arith, u .some)) in
       let at : inDirectory dir name ≡ entryAt dir j .file = in-found dir name found in
       let other : j ≢ i = λ (e : j ≡ i). true≢false (sym is ∙ ap (isDirectory s) (at ∙ ap (λ (m : ℕ). entryAt dir m .file) e) ∙ k .old) in
-      let used : isBlank dir j ≡ false = not-false-true (isBlank dir j) (λ b. omega (arith, u .some, blank-file dir j b)) in
+      let used : isBlank dir j ≡ false = not-so (isBlank dir j) (λ b. omega (arith, u .some, blank-file dir j b)) in
       in-kept dir r (recordCount dir) i (w .whole) (w .size) (w .within) name found other (λ e. k .fresh j found other used (named-has dir name found ∙ sym e))
 
   within-same : (e : ℕ) (name : List ℕ) → isDirectory s (within s e name) ≡ true → within s′ e name ≡ within s e name

@@ -1,9 +1,9 @@
 -- No file, or one that a channel holds, is not alone; else its names are counted.
 use Prim.Native.Nat.{ℕ, _≤_}
-use mathlib.Core.Path.{_≡_, refl, sym, _∙_}
+use mathlib.Core.Path.{_≡_, sym, _∙_}
 use mathlib.Core.Logic.{_≢_}
 use mathlib.Core.List.{List}
-use mathlib.Core.Bool.{Bool, true, false, not, _&&_}
+use mathlib.Core.Bool.{Bool, true, false, not, and-true}
 use lib.Dec.{ltb, eqb}
 use borrow.Author.Needs.{needs}
 use borrow.Author.Tests.{eq-eqb, ne-eqb}
@@ -41,11 +41,7 @@ module _ (b br fr cr : List ℕ) (g : ℕ) where
     unfolding lone
     one-name e n counted =
         let h : held (storeOf (tables b br fr cr)) g ≡ false = held-is ∙ e in
-        rw (ne-eqb g 0 some, h, names-seen b br fr cr g, counted) (and-true (eqb (names (filed b br fr) g) 1))
-      where
-        and-true : (t : Bool) → t ≡ t && true
-        and-true true = refl
-        and-true false = refl
+        rw (ne-eqb g 0 some, h, names-seen b br fr cr g, counted) (sym (and-true (eqb (names (filed b br fr) g) 1)))
 
 returns : tie.Need-returns
 returns c = search no-file

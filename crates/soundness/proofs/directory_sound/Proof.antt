@@ -1,5 +1,5 @@
 use Prim.Native.Nat.{ℕ, suc, _+_, _*_, _/_, _<_}
-use mathlib.Core.Path.{_≡_, refl, sym, _∙_}
+use mathlib.Core.Path.{_≡_, sym, _∙_}
 use mathlib.Core.List.{List}
 use mathlib.Core.Bool.{Bool, true, false, not, _&&_}
 use borrow.Author.Tests.{ne-eqb, not-true, not-false}

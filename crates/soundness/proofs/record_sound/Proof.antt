@@ -1,16 +1,16 @@
 use Prim.Native.Nat.{ℕ, _*_}
-use mathlib.Core.Path.{_≡_, refl, sym, ap, _∙_}
+use mathlib.Core.Path.{_≡_, sym, ap, _∙_}
 use mathlib.Core.List.{List}
 use mathlib.Core.Bool.{Bool, true, false, not, _&&_, _||_, or-false}
 use borrow.Author.Tests.{ne-eqb, not-true, not-false}
 use lib.Dec.{eqb}
 use Rattle.records.specs.Numbers.{zeros}
-use Rattle.records.specs.Tests.{and-false}
+use Rattle.records.specs.Tests.{and-false, not-so}
 use Rattle.meaning.specs.Name.{entryIn, entryAt, isBlank, isWritten}
 use Rattle.meaning.specs.Store.{inUse}
 use Rattle.meaning.specs.Sound.{recordSound}
 use Rattle.names.specs.RecordNames.{recordFrom, record-at, entry-at}
-use Rattle.soundness.specs.Use.{none-unused, not-so}
+use Rattle.soundness.specs.Use.{none-unused}
 use Rattle.soundness.specs.WellFacts.{blank-file}
 use Rattle.soundness.specs.Seen.{filesStore}
 use borrow.Author.Needs.{needs}

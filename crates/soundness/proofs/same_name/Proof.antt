@@ -7,9 +7,9 @@ use lib.ListN.{length, getD}
 use lib.Dec.{eqb}
 use borrow.Author.Tests.{eq-eqb, eqb-true}
 use Rattle.records.specs.Numbers.{two, four}
+use Rattle.records.specs.Tests.{not-so, both-ways}
 use Rattle.meaning.specs.Name.{same, entryIn}
 use Rattle.names.specs.RecordNames.{recordFrom}
-use Rattle.soundness.specs.Use.{not-so, both-ways}
 use Rattle.soundness.specs.RecordRules.{Filled, SameWords, same-words, words-same}
 use borrow.Author.Needs.{needs}
 use Rattle.soundness.proofs.same_name.Statement.{statement}
