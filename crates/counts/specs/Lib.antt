@@ -1,1 +1,2 @@
 pub mod OfStore
+pub mod Gone

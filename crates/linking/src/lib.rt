@@ -1,5 +1,5 @@
 // The calls on two names.
-use counts::names_of;
+use counts::gone_with;
 use files::clear_file;
 use meaning::FileNo;
 use meaning::Report;
@@ -15,7 +15,6 @@ use recording::give_name;
 use recording::record_fits;
 use recording::take_name;
 use soundness::is_directory;
-use tables::is_held;
 ghost use mathlib.Core.Path.{_≡_};
 ghost use mathlib.Core.Bool.{true, not, _&&_};
 ghost use Prim.Native.Nat.{_≤_};
@@ -86,13 +85,7 @@ fn is_lone(
     requires { ⌜ sound (tables (now blocks) (now «block_records») (now «file_records») (now «channel_records»)) ≡ true ⌝ ∗ ⌜ g .0 ≤ fileCount (now «file_records») ⌝ }
     ensures { λ r. ⌜ r ≡ lone (storeOf (entered blocks «block_records» «file_records» «channel_records»)) (g .0) ⌝ }
 {
-    if g.0 == 0 {
-        return false;
-    }
-    if is_held(channel_records, g) {
-        return false;
-    }
-    names_of(blocks, block_records, file_records, g) == 1
+    gone_with(blocks, block_records, file_records, channel_records, g).0 != 0
 }
 
 // How link goes: both names, where the new one's record is or goes, and whether the file that the new name stood for,

@@ -2,11 +2,10 @@
 use Prim.Native.Nat.{ℕ, _≤_, _<_}
 use mathlib.Core.Path.{_≡_}
 use mathlib.Core.List.{List, [], _∷_}
-use mathlib.Core.Bool.{not, _&&_}
 use lib.Dec.{eqb}
 use Rattle.records.specs.Rows.{pick}
 use Rattle.meaning.specs.Name.{blankRecord}
-use Rattle.meaning.specs.Store.{Store, Change, file, noFile, names, held}
+use Rattle.meaning.specs.Store.{Change, file, noFile}
 use Rattle.meaning.specs.NameCalls.{rewritten}
 use Rattle.meaning.specs.Tables.{Tables, storeOf, fileCount}
 use Rattle.meaning.specs.Result.{Result, refused, done}
@@ -15,10 +14,6 @@ use Rattle.meaning.specs.Answers.{reported}
 use Rattle.recording.specs.Recording.{Rewritable}
 use Rattle.unlinking.specs.declared.Unlinking.{Unlinking}
 use Rattle.unlinking.specs.declared.Unlinking.the-variants.{Of, No}
-
--- the file that goes with a name of file f: f where it has one name and no channel, and else 0
-unfoldable pub goneWith : Store → ℕ → ℕ
-goneWith s f = pick (eqb (names s f) 1 && not (held s f)) f 0
 
 -- file g goes; 0 means none
 unfoldable pub freeing : ℕ → List Change

@@ -1,21 +1,18 @@
 -- A name that stands for an ordinary file: its record can be made blank, and the file goes or stays as the code finds.
-use Prim.Native.Nat.{ℕ, _+_, _-_, _*_, _/_, _≤_, _<_}
-use mathlib.Core.Path.{_≡_, refl, ap, sym, subst, _∙_}
+use Prim.Native.Nat.{ℕ, _-_, _≤_, _<_}
+use mathlib.Core.Path.{_≡_, refl, ap, sym, _∙_}
 use mathlib.Core.Logic.{_≢_}
 use mathlib.Core.List.{List, [], _∷_}
 use mathlib.Core.Bool.{Bool, true, false, not, _&&_}
 use native.Mathlib.Omega.{arith}
-use lib.ListN.{length}
 use lib.Dec.{eqb}
 use borrow.Author.Tests.{ne-eqb}
 use Rattle.records.specs.Rows.{pick}
 use Rattle.meaning.specs.Name.{blankRecord, recordCount}
-use Rattle.meaning.specs.Store.{Store, File, Change, file, noFile, root, inUse, isDirectory, named, names, held, letGo, isOrphan}
-use Rattle.meaning.specs.Tables.{Tables, tables, storeOf, fileCount}
-use Rattle.meaning.specs.Sound.{sound}
-use Rattle.meaning.specs.Result.{missing}
+use Rattle.meaning.specs.Store.{Store, file, noFile, root, isDirectory, named, names, held, letGo}
+use Rattle.meaning.specs.Tables.{Tables, storeOf, fileCount}
 use Rattle.meaning.specs.NameCalls.{parent, recordFor, rewritten, unnaming}
-use Rattle.layout.specs.Layout.{Layout, sound-layout}
+use Rattle.layout.specs.Layout.{sound-layout}
 use Rattle.layout.specs.Fits.{FileFits}
 use Rattle.soundness.specs.Seen.{filesStore}
 use Rattle.soundness.specs.Use.{used}
@@ -29,7 +26,8 @@ use Rattle.keeping.specs.Sure.{Sized}
 use Rattle.keeping.specs.Named.{plain-other, other-standing, unnamed-fits}
 use Rattle.naming.specs.At.{At, file-directory, not-missing}
 use Rattle.naming.specs.declared.Located.{Located}
-use Rattle.unlinking.specs.Unlink.{goneWith, freeing, Takes}
+use Rattle.counts.specs.Gone.{goneWith}
+use Rattle.unlinking.specs.Unlink.{freeing, Takes}
 
 -- the file that goes is the one that is let go
 freeing-picked : (g : ℕ) → g ≢ 0 → (v : Bool) → freeing (pick v g 0) ≡ pick v (file g noFile ∷ []) []

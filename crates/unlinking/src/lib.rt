@@ -1,5 +1,5 @@
 // The call that takes a name from its file.
-use counts::names_of;
+use counts::gone_with;
 use files::clear_file;
 use meaning::FileNo;
 use meaning::Report;
@@ -9,33 +9,9 @@ use naming::locate;
 use naming::record_for;
 use recording::take_name;
 use soundness::is_directory;
-use tables::is_held;
-ghost use mathlib.Core.Path.{_≡_};
 ghost use Rattle.meaning.specs.Run.{Keeps, Call, entered};
 ghost use Rattle.meaning.specs.Answers.{reported};
-ghost use Rattle.meaning.specs.Tables.{storeOf};
-ghost use Rattle.counts.specs.OfStore.{OfStore};
-ghost use Rattle.unlinking.specs.Unlink.{goneWith, Decided};
-
-// The file that goes with a name of file f: f itself, where this is its only name and no channel holds it, and else none, 0.
-pub fn gone_with(
-    blocks: &[u8],
-    block_records: &[u8],
-    file_records: &[u8],
-    channel_records: &[u8],
-    f: FileNo,
-) -> FileNo
-    requires { ⌜ OfStore (now blocks) (now «block_records») (now «file_records») (f .0) ⌝ }
-    ensures { λ r. ⌜ r .0 ≡ goneWith (storeOf (entered blocks «block_records» «file_records» «channel_records»)) (f .0) ⌝ }
-{
-    if names_of(blocks, block_records, file_records, f) != 1 {
-        return FileNo(0);
-    }
-    if is_held(channel_records, f) {
-        return FileNo(0);
-    }
-    f
-}
+ghost use Rattle.unlinking.specs.Unlink.{Decided};
 
 // What unlink decides: the record that is made blank, by its directory and its place, and the file that goes, 0 for none;
 // or a refusal.

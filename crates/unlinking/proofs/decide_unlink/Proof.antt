@@ -1,15 +1,14 @@
 -- Each return is a case of what unlink gives on a well-written name, by the tests that led there.
-use Prim.Native.Nat.{ℕ, _+_, _-_, _*_, _/_, _≤_, _<_}
-use mathlib.Core.Path.{_≡_, refl, sym, ap, ap₂, subst, _∙_}
+use Prim.Native.Nat.{ℕ, _-_}
+use mathlib.Core.Path.{_≡_, refl, sym, ap₂, _∙_}
 use mathlib.Core.Logic.{_≢_}
 use mathlib.Core.List.{List, [], _∷_}
-use mathlib.Core.Bool.{Bool, true, false, not}
+use mathlib.Core.Bool.{Bool, true, false}
 use borrow.Author.Needs.{needs}
-use lib.ListN.{length}
-use Rattle.meaning.specs.Store.{Store, Change, file, after, isDirectory, named, letGo}
-use Rattle.meaning.specs.Tables.{Tables, tables, storeOf, fileCount}
+use Rattle.meaning.specs.Store.{Change, file, after, isDirectory, named, letGo}
+use Rattle.meaning.specs.Tables.{Tables, tables, storeOf}
 use Rattle.meaning.specs.NameCalls.{parent, recordFor, unnaming, unlink}
-use Rattle.meaning.specs.Result.{Result, refused, done, unless, missing}
+use Rattle.meaning.specs.Result.{Result, done, unless, missing}
 use Rattle.meaning.specs.Run.{Call, resultOf, meaning, accepts, numberOf}
 use Rattle.meaning.specs.Answers.{reported}
 use Rattle.meaning.specs.declared.Report.{Report}
@@ -26,7 +25,8 @@ use Rattle.naming.specs.InStore.{found-record, located-in-place, refusal-told}
 use Rattle.naming.specs.declared.Judged.{Judged}
 use Rattle.naming.specs.declared.Judged.the-variants.{Syllables, Refused}
 use Rattle.naming.specs.declared.Located.{Located}
-use Rattle.unlinking.specs.Unlink.{Decided, goneWith}
+use Rattle.counts.specs.Gone.{goneWith}
+use Rattle.unlinking.specs.Unlink.{Decided}
 use Rattle.unlinking.specs.UnlinkLaws.{ordinary, deep, in-directory, to-last, its-record, its-end, takes}
 use Rattle.unlinking.specs.declared.Unlinking.the-variants.{Of, No}
 use Rattle.unlinking.proofs.decide_unlink.Statement.{statement}

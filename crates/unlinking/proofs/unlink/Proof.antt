@@ -1,17 +1,16 @@
 -- What is decided is done: a refusal leaves the tables; else the record is made blank, and the file that goes is cleared.
-use Prim.Native.Nat.{ℕ, _+_, _-_, _*_, _/_, _≤_, _<_}
-use mathlib.Core.Path.{_≡_, refl, sym, ap, subst, _∙_}
+use Prim.Native.Nat.{ℕ, _-_, _<_}
+use mathlib.Core.Path.{_≡_, sym, ap, subst, _∙_}
 use mathlib.Core.Logic.{_≢_}
 use mathlib.Core.List.{List, [], _∷_}
 use native.Mathlib.Omega.{arith}
 use borrow.Author.Needs.{needs}
 use borrow.Author.Tests.{eq-eqb, ne-eqb}
-use lib.ListN.{length}
 use Rattle.meaning.specs.Name.{blankRecord}
-use Rattle.meaning.specs.Store.{Change, file, noFile}
+use Rattle.meaning.specs.Store.{file, noFile}
 use Rattle.meaning.specs.NameCalls.{rewritten}
 use Rattle.meaning.specs.Tables.{Tables, tables, storeOf, put, putAll}
-use Rattle.meaning.specs.Run.{Call, Promise, Answer, refusal, numbers, numberOf}
+use Rattle.meaning.specs.Run.{Call, Promise, Answer, refusal, numberOf}
 use Rattle.meaning.specs.Answers.{reported}
 use Rattle.meaning.specs.PromiseLaws.{kept-refusal, kept-done}
 use Rattle.meaning.specs.declared.Report.{Report}

@@ -1,6 +1,6 @@
 -- Each return is a case of the definition, by the tests that led there.
 use Prim.Native.Nat.{ℕ}
-use mathlib.Core.Path.{_≡_, refl, sym, _∙_}
+use mathlib.Core.Path.{_≡_, sym, _∙_}
 use mathlib.Core.Logic.{_≢_}
 use mathlib.Core.List.{List}
 use mathlib.Core.Bool.{Bool, true, false}
@@ -13,9 +13,9 @@ use Rattle.tables.specs.Searches.{channelsWith}
 use Rattle.tables.specs.StoreLaws.{held-channels}
 use Rattle.soundness.specs.Slots.{directoriesStore}
 use Rattle.lookup.specs.Filed.{names-seen}
-use Rattle.unlinking.specs.Unlink.{goneWith}
-use Rattle.unlinking.proofs.gone_with.Statement.{statement}
-use Rattle.unlinking.proofs.gone_with.Tie as tie
+use Rattle.counts.specs.Gone.{goneWith}
+use Rattle.counts.proofs.gone_with.Statement.{statement}
+use Rattle.counts.proofs.gone_with.Tie as tie
 
 module _ (b br fr cr : List ℕ) (f m : ℕ) (counted : m ≡ names (directoriesStore b br fr) f) where
   abbrev s : Store
