@@ -1,8 +1,6 @@
 -- Every call on a well-formed store: the tables can take its changes, and the store that they leave is well formed.
-use Prim.Native.Nat.{ℕ}
-use mathlib.Core.Path.{_≡_}
-use mathlib.Core.List.{List, [], _∷_}
-use Rattle.meaning.specs.Store.{Store, Change, prepared, afterAll}
+use mathlib.Core.List.{[], _∷_}
+use Rattle.meaning.specs.Store.{Store, prepared, afterAll}
 use Rattle.meaning.specs.Result.{Result, refused, done}
 use Rattle.meaning.specs.Run.{Call, Prepare, Room, Create, Open, Unlink, Mkdir, Rmdir, Link, Move, Ls, Close, Fstat, Read, Write, Seek, meaning, changesOf}
 use Rattle.soundness.specs.Well.{Well}
@@ -41,7 +39,3 @@ module _ (s : Store) (w : Well s) (z : Sized s) where
   unfolding changesOf
   sure (refused why) ok = nothing s w z
   sure (done numbers bytes changes) ok = ok
-
-  -- what an accepted call gives
-  pub done-sure : (call : Call) (numbers bytes : List ℕ) (changes : List Change) → meaning call s ≡ done numbers bytes changes → Sure s changes
-  done-sure call numbers bytes changes e = rw e at (good call)

@@ -1,5 +1,5 @@
 -- Block records: which place of which file a block is.
-use Prim.Native.Nat.{ℕ, _<_, _≤_}
+use Prim.Native.Nat.{ℕ, _<_}
 use mathlib.Core.Path.{_≡_, _∙_}
 use mathlib.Core.Logic.{_≢_}
 use mathlib.Core.List.{List}
@@ -8,7 +8,7 @@ use lib.Dec.{eqb}
 use borrow.Author.Tests.{eq-eqb, ne-eqb, eqb-true}
 use Rattle.records.specs.Rows.{howMany}
 use Rattle.records.specs.Tests.{and-left, and-right, and-false}
-use Rattle.records.specs.RowLaws.{lowest-hit, lowest-within, some-lowest, lowest-cong}
+use Rattle.records.specs.RowLaws.{lowest-hit, some-lowest, lowest-cong}
 use Rattle.meaning.specs.Tables.{owner, place, blockCount, holds, isFree, blockOf}
 
 -- block b is place i of file f exactly where its record says both
@@ -41,10 +41,6 @@ module _ (R : List ℕ) (f i b : ℕ) where
 -- ---- the block that is place i of file f
 
 module _ (R : List ℕ) (f i : ℕ) where
-  pub block-within : blockOf R f i ≤ blockCount R
-  unfolding blockOf
-  block-within = lowest-within (blockCount R) (λ b. holds R f i b)
-
   module _ (there : blockOf R f i < blockCount R) where
     pub block-holds : holds R f i (blockOf R f i) ≡ true
     unfolding blockOf

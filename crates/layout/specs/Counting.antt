@@ -93,9 +93,6 @@ module _ (t : Tables) (L : Layout t) where
   unfolding storeOf
   free-and-needed = omega (arith, all-blocks, free-block-count, blocks-needed t)
 
-  pub enough-blocks : blocksNeeded (storeOf t) ≤ storeOf t .blockCount
-  enough-blocks = omega (arith, free-and-needed)
-
   -- the free blocks and those of one file are at most all
   pub needs-within : (f : ℕ) → f ≤ fileCount (t .fileRecords)
       → freeBlocks (storeOf t) + needed (fileLength (t .fileRecords) f) ≤ blockCount (t .blockRecords)

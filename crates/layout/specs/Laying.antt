@@ -7,25 +7,16 @@ use mathlib.Core.Bool.{_&&_}
 use native.Mathlib.Omega.{arith}
 use lib.ListN.{length}
 use lib.Dec.{ltb, eqb}
-use borrow.Author.Tests.{eq-eqb, ne-eqb, lt-ltb, le-ltb}
+use borrow.Author.Tests.{eq-eqb, ne-eqb, lt-ltb}
 use Rattle.records.specs.Rows.{pick}
-use Rattle.records.specs.Tests.{and-false}
 use Rattle.records.specs.Numbers.{one}
-use Rattle.records.specs.ListLaws.{length-listOf, getD-listOf, is-listOf}
+use Rattle.records.specs.ListLaws.{length-listOf, getD-listOf}
 use Rattle.meaning.specs.Tables.{owner, place, laid}
 
 module _ (blocks R : List ℕ) (f : ℕ) (bytes : List ℕ) where
   pub length-laid : length (laid blocks R f bytes) ≡ length blocks
   unfolding laid
   length-laid = length-listOf (length blocks) _
-
-  -- a list is `laid` if it is that long and each byte is what is said here
-  pub is-laid : (l : List ℕ) → length l ≡ length blocks
-      → ((k : ℕ) → k < length blocks
-      → pick (eqb (owner R (k / 512)) f && ltb (512 * place R (k / 512) + k % 512) (length bytes)) (one bytes (512 * place R (k / 512) + k % 512)) (one blocks k) ≡ one l k)
-      → laid blocks R f bytes ≡ l
-  unfolding one laid
-  is-laid l size each = is-listOf (length blocks) _ 0 l size each
 
   -- byte j of block b
   module _ (b j : ℕ) (within : 512 * b + 512 ≤ length blocks) (inside : j < 512) where
@@ -44,7 +35,3 @@ module _ (blocks R : List ℕ) (f : ℕ) (bytes : List ℕ) where
     -- else it stays: in the blocks of other files and in free blocks
     pub laid-other : owner R b ≢ f → one (laid blocks R f bytes) (512 * b + j) ≡ one blocks (512 * b + j)
     laid-other o = laid-at ∙ rw (ne-eqb (owner R b) f o)
-
-    -- and past the end of f
-    pub laid-past : length bytes ≤ 512 * place R b + j → one (laid blocks R f bytes) (512 * b + j) ≡ one blocks (512 * b + j)
-    laid-past l = laid-at ∙ rw (le-ltb (512 * place R b + j) (length bytes) l, and-false (eqb (owner R b) f))

@@ -32,10 +32,6 @@ unfolding withSyllables
 same-syllables none r r′ h = refl
 same-syllables (some name) r r′ h = h name
 
-same-done : (ns ns′ bytes bytes′ : List ℕ) (changes changes′ : List Change) → ns ≡ ns′ → bytes ≡ bytes′ → changes ≡ changes′
-    → done ns bytes changes ≡ done ns′ bytes′ changes′
-same-done ns ns′ bytes bytes′ changes changes′ e f g = λ i. done (e i) (f i) (g i)
-
 module _ (listed : Listed) (s s′ : Store) (a : SameStore listed s s′) where
   pub same-channel : (c : ℕ) (r r′ : Result) → r ≡ r′ → onChannel s c r ≡ onChannel s′ c r′
   unfolding onChannel

@@ -31,9 +31,6 @@ module _ (listed : Listed) (s s′ : Store) (a : SameStore listed s s′) where
   pub same-held-file : (c : ℕ) → s .channel c .file ≡ s′ .channel c .file
   same-held-file c = ap (λ (y : Channel). y .file) (a .channel c)
 
-  pub same-posn : (c : ℕ) → s .channel c .posn ≡ s′ .channel c .posn
-  same-posn c = ap (λ (y : Channel). y .posn) (a .channel c)
-
   pub same-use : (f : ℕ) → inUse s f ≡ inUse s′ f
   same-use f = after.same-use s′ s (a .files) f (same-kind f)
 

@@ -1,16 +1,15 @@
 -- The files of three tables: what names see of a store, whatever the channel records hold.
-use Prim.Native.Nat.{ℕ, zero, suc, _+_, _*_, _≤_, _<_}
-use mathlib.Core.Path.{_≡_, refl, ap, sym, _∙_, fun-ext}
+use Prim.Native.Nat.{ℕ, zero, suc, _*_}
+use mathlib.Core.Path.{_≡_, refl, ap, _∙_, fun-ext}
 use mathlib.Core.List.{List, [], _∷_}
-use mathlib.Core.Bool.{Bool, true, false, _&&_}
-use native.Mathlib.Omega.{arith}
+use mathlib.Core.Bool.{true}
 use lib.ListN.{length}
-use Rattle.records.specs.Tests.{and-left, and-right}
+use Rattle.records.specs.Tests.{and-right}
 use Rattle.meaning.specs.Name.{recordCount}
-use Rattle.meaning.specs.Store.{Store, File, noChannel, inUse, isDirectory, within, names, named}
-use Rattle.meaning.specs.Tables.{Tables, tables, storeOf, fileOf, fileCount, byteOf, fileLength}
+use Rattle.meaning.specs.Store.{Store, File, noChannel, inUse, isDirectory, within, names}
+use Rattle.meaning.specs.Tables.{Tables, tables, storeOf, fileOf, fileCount, byteOf}
 use Rattle.meaning.specs.Sound.{sound, layoutSound, wellFormed}
-use Rattle.layout.specs.Layout.{Layout, sound-layout}
+use Rattle.layout.specs.Layout.{sound-layout}
 use Rattle.soundness.specs.Well.{Well}
 use Rattle.soundness.specs.WellLaws.{well}
 use Rattle.soundness.specs.WellFacts.{directory-length}

@@ -1,20 +1,19 @@
 -- Looking a syllable up in a directory, step by step.
-use Prim.Native.Nat.{ℕ, zero, suc, _+_, _-_, _*_, _/_, _%_, _≤_, _<_}
-use mathlib.Core.Path.{_≡_, refl, ap, sym, _∙_}
+use Prim.Native.Nat.{ℕ, _+_, _-_, _*_, _/_, _%_, _≤_, _<_}
+use mathlib.Core.Path.{_≡_, ap, sym, _∙_}
 use mathlib.Core.Logic.{_≢_}
-use mathlib.Core.List.{List, [], _∷_}
-use mathlib.Core.Bool.{Bool, true, false, not}
+use mathlib.Core.List.{List, []}
+use mathlib.Core.Bool.{true, false}
 use native.Mathlib.Omega.{arith}
 use lib.ListN.{length}
-use lib.Dec.{ltb}
-use borrow.Author.Tests.{lt-ltb, le-ltb, not-true, not-false}
-use Rattle.records.specs.Rows.{pick, lowest}
+use borrow.Author.Tests.{lt-ltb, le-ltb}
+use Rattle.records.specs.Rows.{lowest}
 use Rattle.records.specs.RowLaws.{lowest-cong, lowest-within}
 use Rattle.meaning.specs.Name.{Entry, same, entryIn, entryAt, isBlank, recordCount, recordNamed, recordForNew, inDirectory}
 use Rattle.meaning.specs.Store.{Store, isDirectory, within}
-use Rattle.meaning.specs.Tables.{Tables, tables, storeOf, fileOf, fileCount, fileLength, lengthAt, blockOf}
+use Rattle.meaning.specs.Tables.{tables, storeOf, fileCount, fileLength, lengthAt, blockOf}
 use Rattle.layout.specs.Layout.{length-file}
-use Rattle.soundness.specs.Use.{Used, directory-used}
+use Rattle.soundness.specs.Use.{directory-used}
 use Rattle.soundness.specs.Seen.{filesStore}
 use Rattle.tables.specs.StoreLaws.{file-length}
 use Rattle.names.specs.RecordNames.{recordFrom}

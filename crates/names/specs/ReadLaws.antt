@@ -147,6 +147,3 @@ module _ (bytes : List ℕ) (name : List (List ℕ)) (is : syllables bytes ≡ s
       let at = placeOf bytes k in
       let e = sym (drop-cons name k [] h) ∙ sym (at-place .rest) ∙ split-from bytes at (at-place .within) in
       cc
-
-  pub place-within : placeOf bytes k ≤ length bytes
-  place-within = at-place .within

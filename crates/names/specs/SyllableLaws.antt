@@ -150,10 +150,6 @@ module _ (bytes : List ℕ) (at n : ℕ) (left : 0 < n) where
     unfolding Reaches
     reach-inside = step .0
 
-    pub reach-syllable : isSyllable (part bytes at (syllableEnd bytes at)) ≡ true
-    unfolding Reaches
-    reach-syllable = step .1
-
     pub reach-next : Reaches bytes (syllableEnd bytes at + 1) (n - 1)
     unfolding Reaches
     reach-next = step .2

@@ -6,7 +6,7 @@ ghost use Prim.Native.Nat.{_+_, _-_, _≤_, _<_};
 ghost use lib.ListN.{length};
 ghost use lib.Seq.{sets};
 ghost use Rattle.records.specs.Numbers.{one, twoBytes, zeros};
-ghost use Rattle.meaning.specs.Name.{isSyllable, syllables, same, entry, entryIn, written, blankRecord};
+ghost use Rattle.meaning.specs.Name.{isSyllable, syllables, same, entry, entryIn, written};
 ghost use Rattle.names.specs.Syllables.{part, lastStart, formOf};
 ghost use Rattle.names.specs.RecordNames.{recordFrom, padded};
 
@@ -141,18 +141,6 @@ pub fn is_blank(table: &[u8], at: usize) -> bool
         i += 1;
     }
     true
-}
-
-// The record that starts at a place made blank.
-pub fn blank_record(table: &mut [u8], at: usize)
-    requires { ⌜ at + 16 ≤ length (now table) ⌝ }
-    ensures { λ r. ⌜ now (table .exit) ≡ sets (now (table .entry)) at blankRecord ⌝ }
-{
-    let mut i = 0;
-    while i < 16 {
-        table[at + i] = 0;
-        i += 1;
-    }
 }
 
 // A file number laid at a place, low byte first.

@@ -18,10 +18,6 @@ pub length-twoBytes : (n : ℕ) → length (twoBytes n) ≡ 2
 unfolding twoBytes
 length-twoBytes n = refl
 
-pub length-fourBytes : (n : ℕ) → length (fourBytes n) ≡ 4
-unfolding fourBytes twoBytes
-length-fourBytes n = refl
-
 -- a number that fits comes back from its bytes
 pub two-of : (n : ℕ) → n < 65536 → two (twoBytes n) 0 ≡ n
 unfolding two one twoBytes
@@ -49,10 +45,6 @@ module _ (l : List ℕ) (bytes : (j : ℕ) → getD l j 0 < 256) where
   pub two-small : (at : ℕ) → two l at < 65536
   unfolding two one
   two-small at = omega (arith, bytes at, bytes (at + 1))
-
-  pub four-small : (at : ℕ) → four l at < 4294967296
-  unfolding four
-  four-small at = omega (arith, two-small at, two-small (at + 2))
 
 -- ---- equal bytes give equal numbers
 
@@ -85,9 +77,6 @@ module _ (xs ys : List ℕ) where
   -- read in the first
   pub two-first : (at : ℕ) → at + 2 ≤ length xs → two (xs ++ ys) at ≡ two xs at
   two-first at h = two-cong (xs ++ ys) xs at at (λ k (l : k < 2). List·getD-append xs ys 0 (at + k) (omega arith))
-
-  pub four-first : (at : ℕ) → at + 4 ≤ length xs → four (xs ++ ys) at ≡ four xs at
-  four-first at h = four-cong (xs ++ ys) xs at at (λ k (l : k < 4). List·getD-append xs ys 0 (at + k) (omega arith))
 
   -- read in the second
   second : (at j k : ℕ) → j ≡ length xs + at → getD (xs ++ ys) (j + k) 0 ≡ getD ys (at + k) 0

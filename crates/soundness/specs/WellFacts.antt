@@ -1,21 +1,20 @@
 -- What follows of a well-formed store: small facts that calls use.
 use Prim.Native.Nat.{ℕ, _*_, _≤_, _<_}
 use mathlib.Core.Path.{_≡_, refl, sym, _∙_}
-use mathlib.Core.Logic.{_≢_, ⊎-elim}
+use mathlib.Core.Logic.{_≢_}
 use mathlib.Core.List.{List, [], _∷_}
 use mathlib.Core.Bool.{true, false, not, true≢false}
 use native.Mathlib.Omega.{arith}
 use lib.ListN.{length, getD, take, drop}
 use lib.Seq.{getD-take, getD-drop}
 use lib.Dec.{ltb, eqb}
-use borrow.Author.Tests.{ltb-true, eqb-false, eq-eqb, ne-eqb, not-true}
+use borrow.Author.Tests.{ltb-true, eqb-false, not-true}
 use Rattle.records.specs.Numbers.{one, two}
 use Rattle.records.specs.NumberLaws.{zeros-zero}
-use Rattle.records.specs.Tests.{tested, and-left, and-right, lt-or-ge}
+use Rattle.records.specs.Tests.{and-left, and-right}
 use Rattle.meaning.specs.File.{longest}
 use Rattle.meaning.specs.Name.{recordCount, recordAt, entryAt, entryIn, isBlank}
 use Rattle.meaning.specs.Store.{Store, File, noFile, root, inUse, isDirectory, isOpen}
-use Rattle.names.specs.SameLaws.{is-same}
 use Rattle.soundness.specs.Use.{Used, used, directory-used, directory-kind, of-directory, not-directory}
 use Rattle.soundness.specs.Well.{FreeFile, OrdinaryFile, DirectoryFile, FileForm, as-free, as-ordinary, as-directory, OpenChannel, ChannelForm, NamingRecord, RecordForm, as-blank, as-naming, Well}
 
@@ -117,22 +116,3 @@ module _ (s : Store) (w : Well s) where
 
     pub named-used : isBlank dir i ≡ false → Used s (entryAt dir i .file)
     named-used b = used s (entryAt dir i .file) (naming-record b .in-use)
-
-    -- a record is blank exactly where its file number is 0
-    pub blank-number : isBlank dir i ≡ eqb (entryAt dir i .file) 0
-    blank-number =
-        ⊎-elim
-        (λ (b : isBlank dir i ≡ true). b ∙ sym (eq-eqb (entryAt dir i .file) 0 (blank-file dir i b)))
-        (λ (b : isBlank dir i ≡ false). let u = named-used b in b ∙ sym (ne-eqb (entryAt dir i .file) 0 (omega (arith, u .some))))
-        (tested (isBlank dir i))
-
-  -- two records that are not blank have different names
-  module _ (d i j : ℕ) (is : isDirectory s d ≡ true) (h : i < recordCount (s .file d .bytes)) (l : j < recordCount (s .file d .bytes)) where
-    pub names-apart : i ≢ j → isBlank (s .file d .bytes) i ≡ false → isBlank (s .file d .bytes) j ≡ false
-        → entryAt (s .file d .bytes) i .name ≢ entryAt (s .file d .bytes) j .name
-    names-apart other b c e =
-        let dir = s .file d .bytes in
-        ⊎-elim
-        (λ (m : i < j). true≢false (sym (is-same (entryAt dir i .name) (entryAt dir j .name) e) ∙ w .distinct d i j is m l c))
-        (λ (m : j ≤ i). true≢false (sym (is-same (entryAt dir j .name) (entryAt dir i .name) (sym e)) ∙ w .distinct d j i is (omega arith) h b))
-        (lt-or-ge i j)

@@ -81,10 +81,6 @@ module _ (s : Store) (f : ℕ) (x : File) where
   unfolding after
   file-counts = refl
 
-  use-other : (g : ℕ) → g ≢ f → inUse t g ≡ inUse s g
-  unfolding inUse after
-  use-other g n = rw (ne-eqb g f n)
-
   dir-other : (g : ℕ) → g ≢ f → isDirectory t g ≡ isDirectory s g
   unfolding isDirectory inUse after
   dir-other g n = rw (ne-eqb g f n)

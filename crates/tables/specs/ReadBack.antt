@@ -8,7 +8,7 @@ use native.Mathlib.Omega.{arith}
 use lib.ListN.{length}
 use lib.Dec.{eqb}
 use Rattle.records.specs.Rows.{every}
-use Rattle.records.specs.Numbers.{one, two, four, twoBytes, fourBytes, zeros, withRecord}
+use Rattle.records.specs.Numbers.{one, two, twoBytes, fourBytes, zeros, withRecord}
 use Rattle.records.specs.NumberLaws.{length-twoBytes, two-of, four-of, two-first, two-second, four-second}
 use Rattle.records.specs.RecordLaws.{one-written, two-written, four-written, zeros-written, one-kept, two-kept, four-kept, zeros-kept}
 use Rattle.meaning.specs.Tables.{blockCount, owner, place, blockRecord, holds, fileCount, kindAt, depthAt, lengthAt, fileRecord, channelCount, channelFileAt, positionAt, channelRecord}

@@ -15,7 +15,7 @@ ghost use lib.Dec.{ltb};
 ghost use Rattle.records.specs.Numbers.{withRecord};
 ghost use Rattle.meaning.specs.Tables.{blockCount, fileCount, channelCount, blockRecord, fileRecord, channelRecord, blockOf};
 ghost use Rattle.tables.specs.Read.{BlockRead, FileRead, ChannelRead};
-ghost use Rattle.tables.specs.Searches.{freeBlockCount, fileWith, filesWith, channelWith, channelsWith, neededBlocks};
+ghost use Rattle.tables.specs.Searches.{freeBlockCount, fileWith, filesWith, channelWith, channelsWith};
 
 pub struct BlockRecord {
     pub owner: FileNo,
@@ -211,19 +211,4 @@ pub fn is_held(records: &[u8], f: FileNo) -> bool
     ensures { λ r. ⌜ r ≡ ltb 0 (channelsWith (now (records .entry)) (f .0)) ⌝ }
 {
     find_channel(records, f) < records.len() / 8
-}
-
-// How many blocks the files need.
-pub fn needed_blocks(records: &[u8]) -> usize
-    requires { ⌜ length (now records) < 4294967296 ⌝ }
-    ensures { λ r. ⌜ r ≡ neededBlocks (now (records .entry)) ⌝ }
-{
-    let count = records.len() / 8;
-    let mut sum: usize = 0;
-    let mut i = 0;
-    while i < count {
-        sum += (four_at(records, 8 * i + 4) as usize + 511) / 512;
-        i += 1;
-    }
-    sum
 }

@@ -1,7 +1,7 @@
 -- The program's definitions run on texts: 01's session, and forms of lines.
 use Prim.Native.String.{String}
 use mathlib.Core.Path.{_≡_, refl}
-use mathlib.Core.List.{List, [], _∷_}
+use mathlib.Core.List.{List, []}
 use Prim.Native.Nat.{ℕ}
 use Rattle.meaning.specs.Running.{wrongFrom}
 use Rattle.meaning.specs.Text.{text}

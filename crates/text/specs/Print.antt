@@ -3,7 +3,6 @@
 use Prim.Native.Nat.{ℕ, zero, suc, _+_, _/_, _%_}
 use mathlib.Core.List.{List, [], _∷_, _++_}
 use mathlib.Core.Option.{Option, none, some}
-use lib.ListN.{replicate, getD}
 use lib.Dec.{ltb}
 use Rattle.records.specs.Rows.{pick}
 use Rattle.meaning.specs.Tables.{Tables}

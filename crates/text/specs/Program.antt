@@ -1,7 +1,6 @@
 -- The program as a whole: what it writes for what it reads (01, "Figures to meet").
 use Prim.Native.Nat.{ℕ, _*_}
 use mathlib.Core.List.{List, [], _∷_, _++_}
-use mathlib.Core.Bool.{Bool, true, false}
 use lib.ListN.{replicate}
 use lib.Dec.{eqb}
 use Rattle.records.specs.Rows.{pick}

@@ -7,7 +7,7 @@ use mathlib.Core.Bool.{false, not, true≢false}
 use native.Mathlib.Omega.{arith}
 use lib.ListN.{length}
 use borrow.Author.Tests.{lt-ltb, le-ltb}
-use Rattle.records.specs.RowLaws.{lowest-hit, lowest-misses, lowest-within, lowest-is}
+use Rattle.records.specs.RowLaws.{lowest-hit, lowest-misses, lowest-is}
 use Rattle.records.specs.Tests.{same-or-not, lt-or-ge}
 use Rattle.meaning.specs.Name.{Entry, same, entryIn, recordCount, entryAt, recordNamed, inDirectory, withEntry}
 use Rattle.names.specs.SameLaws.{same-is, is-same, not-same}
@@ -16,10 +16,6 @@ use Rattle.directories.specs.EntryLaws.{count-with, entry-same, entry-other}
 -- ---- the record that has a name
 
 module _ (dir name : List ℕ) where
-  pub named-within : recordNamed dir name ≤ recordCount dir
-  unfolding recordNamed
-  named-within = lowest-within (recordCount dir) (λ i. same (entryAt dir i .name) name)
-
   pub named-has : recordNamed dir name < recordCount dir → entryAt dir (recordNamed dir name) .name ≡ name
   unfolding recordNamed
   named-has h =

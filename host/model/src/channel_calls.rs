@@ -40,14 +40,7 @@ impl Tables<'_> {
             &mut buffer[..count],
         );
         let position = channel.position + count as u32;
-        self.set_channel(
-            &mut store,
-            at,
-            Some(Channel {
-                position,
-                ..channel
-            }),
-        );
+        self.move_channel(&mut store, at, channel, position);
         Ok(count as u32)
     }
 
@@ -65,14 +58,7 @@ impl Tables<'_> {
         self.zero(&store, channel.file, file.length as usize, start);
         self.copy_in(&store, channel.file, start, data);
         let position = end as u32;
-        self.set_channel(
-            &mut store,
-            at,
-            Some(Channel {
-                position,
-                ..channel
-            }),
-        );
+        self.move_channel(&mut store, at, channel, position);
         Ok(data.len() as u32)
     }
 
@@ -95,14 +81,7 @@ impl Tables<'_> {
             return Err(Refusal::BadSeek);
         }
         let position = position as u32;
-        self.set_channel(
-            &mut store,
-            at,
-            Some(Channel {
-                position,
-                ..channel
-            }),
-        );
+        self.move_channel(&mut store, at, channel, position);
         Ok(position)
     }
 
@@ -116,5 +95,14 @@ impl Tables<'_> {
             file: channel.file.number(),
             kind: file.kind,
         })
+    }
+
+    /// Sets a channel's position.
+    fn move_channel(&mut self, store: &mut Store, at: usize, channel: Channel, position: u32) {
+        let moved = Channel {
+            position,
+            ..channel
+        };
+        self.set_channel(store, at, Some(moved));
     }
 }
