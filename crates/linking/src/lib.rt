@@ -85,6 +85,9 @@ fn is_lone(
     requires { ⌜ sound (tables (now blocks) (now «block_records») (now «file_records») (now «channel_records»)) ≡ true ⌝ ∗ ⌜ g .0 ≤ fileCount (now «file_records») ⌝ }
     ensures { λ r. ⌜ r ≡ lone (storeOf (entered blocks «block_records» «file_records» «channel_records»)) (g .0) ⌝ }
 {
+    if g.0 == 0 {
+        return false;
+    }
     gone_with(blocks, block_records, file_records, channel_records, g).0 != 0
 }
 
