@@ -139,8 +139,8 @@ pub gap-reads-zero : (t : Tables) (c : ℕ) (bytes buffer : List ℕ) (n k : ℕ
     → length (storeOf t .file (storeOf t .channel c .file) .bytes) ≤ k → k < storeOf t .channel c .posn
     → getD (storeOf (run (Write c bytes) t buffer .tables) .file (storeOf t .channel c .file) .bytes) k 0 ≡ 0
 unfolding meaning
-gap-reads-zero t c bytes buffer n k e yes past before =
-    rw (run-store (Write c bytes) t buffer e, write-writes (storeOf t) c bytes n (rw (heard (Write c bytes) t e) at yes))
+gap-reads-zero t c bytes buffer n k e told-so past before =
+    rw (run-store (Write c bytes) t buffer e, write-writes (storeOf t) c bytes n (rw (heard (Write c bytes) t e) at told-so))
     (gap-zero (storeOf t .file (storeOf t .channel c .file) .bytes) bytes (storeOf t .channel c .posn) k past before)
 
 -- the same call again has another answer: no constant keeps the promise
@@ -156,9 +156,10 @@ close-twice t c buffer e is =
 
 -- and so does no program that leaves the tables as they are
 pub tables-change : (t : Tables) (c : ℕ) (buffer : List ℕ) → sound t ≡ true → isOpen (storeOf t) c ≡ true → run (Close c) t buffer .tables ≢ t
+unfolding numberOf
 tables-change t c buffer e is unchanged =
     let (first, again) = close-twice t c buffer e is in
-    let z : _≡_ {A = ℕ} 0 1 = cc (ap (λ (u : Tables). answerOf 0 (resultOf (Close c) u)) unchanged) in omega arith
+    let z : _≡_ {A = ℕ} 0 3 = cc (ap (λ (u : Tables). answerOf 0 (resultOf (Close c) u)) unchanged) in omega arith
 
 -- there is such a store
 a-channel-closed-twice : wrong (zeroed 1 1 1) (

@@ -17,7 +17,7 @@ use Rattle.meaning.specs.Answers.{never-accepted}
 use Rattle.meaning.specs.Determined.{run-outcome}
 use Rattle.meaning.specs.declared.Report.the-variants.{NoSuchCid}
 use Rattle.keeping.specs.Proofs.{sound-accepted, store-after, sound-kept}
-use Rattle.likeness.specs.Alike.{Listed, Alike, SameCall, listedAfter, left, AlikeOutcomes, Demanded}
+use Rattle.likeness.specs.Alike.{Listed, Alike, SameCall, same, other-bytes, listedAfter, left, AlikeOutcomes, Demanded}
 use Rattle.likeness.specs.Results.{Given, same-result}
 use Rattle.likeness.specs.Stores.{same-stores, alike-left}
 
