@@ -7,7 +7,7 @@ use native.Mathlib.Omega.{arith}
 use lib.ListN.{length, take, drop}
 use Rattle.meaning.specs.Tables.{Tables}
 use Rattle.meaning.specs.File.{over}
-use Rattle.meaning.specs.Run.{Call, Answer, Promise, resultOf, answerOf, bytesOf}
+use Rattle.meaning.specs.Run.{Call, width, Answer, Promise, resultOf, answerOf, bytesOf}
 use Rattle.text.specs.Lays.{Lays}
 use Rattle.text.specs.LaysLaws.{lays-as}
 use Rattle.text.specs.Print.{servedAs, printed, newline, question}
@@ -28,7 +28,7 @@ module _ (call : Call) (t : Tables) (buffer : List ℕ) (answer : Answer) (buffe
   served-bytes bytes e l =
       record {
         leaves = p .leaves;
-        lays = lays-as (printed answer bytes ++ newline ∷ []) (printed (answerOf (resultOf call t)) (bytesOf (resultOf call t)) ++ newline ∷ []) out after at next
+        lays = lays-as (printed answer bytes ++ newline ∷ []) (printed (answerOf (width call) (resultOf call t)) (bytesOf (resultOf call t)) ++ newline ∷ []) out after at next
             (ap (λ x. x ++ newline ∷ []) (e ∙ ap (λ a. printed a (bytesOf (resultOf call t))) (p .answers))) l;
       }
 

@@ -9,12 +9,13 @@ use lib.Seq.{take-at}
 use Rattle.meaning.specs.File.{over}
 use Rattle.meaning.specs.Tables.{Tables}
 use Rattle.meaning.specs.Result.{Result, refused, done, unless}
-use Rattle.meaning.specs.Run.{Call, Answer, refusal, numbers, Promise, resultOf, answerOf, bytesOf}
-use Rattle.meaning.specs.Answers.{counted}
+use Rattle.meaning.specs.Run.{Call, width, accepted, Promise, resultOf, answerOf, bytesOf}
+use Rattle.meaning.specs.Answers.{counted, never-accepted}
 use Rattle.meaning.specs.declared.Report.{Report}
 use Rattle.meaning.specs.declared.Counted.{Counted}
 use Rattle.meaning.specs.declared.Counted.the-variants.{Of, Refused}
 use Rattle.text.specs.Print.{printed}
+use Rattle.text.specs.PrintedLaws.{printed-refusal}
 use Rattle.serving.specs.Serves.{shownOf}
 
 -- one number, which counts bytes by so many, and no more of them than are lent
@@ -39,30 +40,26 @@ pub record Shows (answer : Counted) (n : ℕ) (buffer buffer′ bytes : List ℕ
   pub same-size : length buffer′ ≡ length buffer
   pub same : printed (counted answer) (take n buffer′) ≡ printed (counted answer) bytes
 
-isRefusal : Answer → Bool
-isRefusal (refusal why) = true
-isRefusal (numbers ns) = false
-
-one-number : (m k : ℕ) (ns : List ℕ) → numbers (m ∷ []) ≡ numbers ns → ns ≡ k ∷ [] → m ≡ k
+one-number : (m k : ℕ) (ns : List ℕ) → accepted (m ∷ []) ≡ accepted ns → ns ≡ k ∷ [] → m ≡ k
 one-number m k ns e f = cc
 
 module _ (width : ℕ) (buffer buffer′ : List ℕ) (n : ℕ) where
-  shows-of : (answer : Counted) (r : Result) → n ≡ shownOf width answer → Sized width (length buffer) r → counted answer ≡ answerOf r → buffer′ ≡ over buffer (bytesOf r)
+  shows-of : (answer : Counted) (r : Result) → n ≡ shownOf width answer → Sized width (length buffer) r → counted answer ≡ answerOf 1 r → buffer′ ≡ over buffer (bytesOf r)
       → Shows answer n buffer buffer′ (bytesOf r)
-  unfolding answerOf bytesOf printed isRefusal
-  shows-of (Refused y) (refused why) e z a b = record { within = omega arith; same-size = ap length b; same = refl }
-  shows-of (Refused y) (done ns bytes changes) e z a b = absurd (true≢false (ap isRefusal a))
-  shows-of (Of m) (refused why) e z a b = absurd (true≢false (sym (ap isRefusal a)))
+  unfolding answerOf bytesOf
+  shows-of (Refused y) (refused why) e z a b = record { within = omega arith; same-size = ap length b; same = printed-refusal 1 y (take n buffer′) ∙ sym (printed-refusal 1 y []) }
+  shows-of (Refused y) (done ns bytes changes) e z a b = absurd (never-accepted 1 (z .n) [] y (sym (a ∙ ap accepted (z .one))))
+  shows-of (Of m) (refused why) e z a b = absurd (never-accepted 1 m [] why a)
   shows-of (Of m) (done ns bytes changes) e z a b =
       let k : m ≡ z .n = one-number m (z .n) ns a (z .one) in
       let l : length bytes ≡ n = z .each ∙ ap (λ (x : ℕ). width * x) (sym k) ∙ sym e in
       record {
         within = omega (arith, z .fits);
         same-size = ap length b ∙ length-append bytes (drop (length bytes) buffer) ∙ (let d = length-drop (length bytes) buffer in omega (arith, z .fits));
-        same = ap (printed (numbers (m ∷ []))) (ap (take n) b ∙ take-at bytes (drop (length bytes) buffer) n l);
+        same = ap (printed (accepted (m ∷ []))) (ap (take n) b ∙ take-at bytes (drop (length bytes) buffer) n l);
       }
 
 module _ (call : Call) (t : Tables) (buffer : List ℕ) (answer : Counted) (buffer′ : List ℕ) (t′ : Tables)
     (p : Promise call t buffer (record { answer = counted answer; buffer = buffer′; tables = t′ })) where
-  pub shows : (width n : ℕ) → n ≡ shownOf width answer → Sized width (length buffer) (resultOf call t) → Shows answer n buffer buffer′ (bytesOf (resultOf call t))
-  shows width n e z = shows-of width buffer buffer′ n answer (resultOf call t) e z (p .answers) (p .fills)
+  pub shows : width call ≡ 1 → (size n : ℕ) → n ≡ shownOf size answer → Sized size (length buffer) (resultOf call t) → Shows answer n buffer buffer′ (bytesOf (resultOf call t))
+  shows one size n e z = shows-of size buffer buffer′ n answer (resultOf call t) e z (rw one at (p .answers)) (p .fills)

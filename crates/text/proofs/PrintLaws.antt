@@ -1,19 +1,19 @@
 -- Laws of what is printed, as the code meets them: numbers and hex one behind another, and a line's end.
-use Prim.Native.Nat.{ℕ, zero, suc, _+_, _*_, _≤_, _<_}
+use Prim.Native.Nat.{ℕ, _+_, _*_, _≤_, _<_}
 use mathlib.Core.Path.{_≡_, refl, _∙_}
 use mathlib.Core.List.{List, [], _∷_, _++_, append-nil}
 use mathlib.Core.Bool.{Bool, true, false}
 use native.Mathlib.Omega.{arith}
 use native.Mathlib.Numerals.{add-one}
-use lib.ListN.{length, take, getD, replicate}
+use lib.ListN.{length, take, getD}
 use lib.Seq.{take-suc, take-all}
 use lib.Dec.{eqb}
-use Rattle.records.specs.Rows.{pick}
 use Rattle.meaning.specs.Run.{Answer, accepted, refusal, numberOf}
 use Rattle.meaning.specs.Answers.{reported}
 use Rattle.meaning.specs.declared.Report.{Report}
 use Rattle.text.specs.Line.{space}
 use Rattle.text.specs.Print.{digits, decimal, hex, hexWord, spaced, printed, newline}
+use Rattle.text.specs.PrintedLaws.{printed-refusal}
 use Rattle.text.specs.Lays.{Lays, LaysAtMost}
 use Rattle.text.specs.LaysLaws.{lays-none, lays-both}
 
@@ -96,16 +96,6 @@ a-word (b ∷ bytes) out between after at middle next d p q = lays-both (space �
 pub printed-report : (r : Report) → printed (reported r) [] ≡ decimal (numberOf r)
 unfolding printed
 printed-report r = refl
-
--- a refusal prints its report alone
-printed-refusal : (n : ℕ) (why : Report) (bytes : List ℕ) → printed (refusal n why) bytes ≡ decimal (numberOf why)
-unfolding printed refusal
-printed-refusal n why bytes = go n (eqb (numberOf why) 0) refl
-  where
-    go : (n : ℕ) (t : Bool) → eqb (numberOf why) 0 ≡ t → printed (numberOf why ∷ pick t [] (replicate {A = ℕ} n 0)) bytes ≡ decimal (numberOf why)
-    go n true e = refl
-    go zero false e = refl
-    go (suc n) false e = rw e
 
 -- the same answer under another name
 pub line-as : (a b : Answer) (bytes out after : List ℕ) (at next : ℕ) → a ≡ b → Lays out at (printed b bytes ++ newline ∷ []) after next

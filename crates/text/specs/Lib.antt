@@ -1,5 +1,6 @@
 pub mod Line
 pub mod Print
+pub mod PrintedLaws
 pub mod Program
 pub mod Examples
 pub mod Commands

@@ -24,7 +24,7 @@ use Rattle.serving.proofs.on_channels.read_into.Tie as tie
 module _ (c : ℕ) (t : Tables) (buffer : List ℕ) (answer : Counted) (buffer′ : List ℕ) (t′ : Tables)
     (p : Promise (Call.Read c (length buffer)) t buffer (record { answer = counted answer; buffer = buffer′; tables = t′ })) (n : ℕ) (e : n ≡ shownOf 1 answer) where
   shown : Shows answer n buffer buffer′ (bytesOf (resultOf (Call.Read c (length buffer)) t))
-  shown = shows (Call.Read c (length buffer)) t buffer answer buffer′ t′ p 1 n e (read-sized c (length buffer) t)
+  shown = shows (Call.Read c (length buffer)) t buffer answer buffer′ t′ p refl 1 n e (read-sized c (length buffer) t)
 
   shown-within : n ≤ length buffer′
   shown-within = omega (arith, shown .within, shown .same-size)

@@ -24,7 +24,7 @@ use Rattle.serving.proofs.on_names.ls_into.Tie as tie
 module _ (name : List ℕ) (t : Tables) (buffer : List ℕ) (answer : Counted) (buffer′ : List ℕ) (t′ : Tables)
     (p : Promise (Call.Ls name (length buffer)) t buffer (record { answer = counted answer; buffer = buffer′; tables = t′ })) (n : ℕ) (e : n ≡ shownOf 14 answer) where
   shown : Shows answer n buffer buffer′ (bytesOf (resultOf (Call.Ls name (length buffer)) t))
-  shown = shows (Call.Ls name (length buffer)) t buffer answer buffer′ t′ p 14 n e (ls-sized name (length buffer) t)
+  shown = shows (Call.Ls name (length buffer)) t buffer answer buffer′ t′ p refl 14 n e (ls-sized name (length buffer) t)
 
   shown-within : n ≤ length buffer′
   shown-within = omega (arith, shown .within, shown .same-size)
