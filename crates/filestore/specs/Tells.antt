@@ -2,9 +2,9 @@
 use Prim.Native.Nat.{ℕ, _-_}
 use mathlib.Core.Path.{_≡_}
 use mathlib.Core.List.{List, [], _∷_, _++_}
-use lib.ListN.{replicate}
+use lib.ListN.{length, replicate}
 use Rattle.meaning.specs.Tables.{Tables}
-use Rattle.meaning.specs.Run.{Call, Answer, Promise, Lent, entered, left, told, width, numberOf}
+use Rattle.meaning.specs.Run.{Call, Answer, Promise, Lent, entered, left, numberOf}
 use Rattle.meaning.specs.declared.Report.{Report}
 use Rattle.filestore.specs.declared.Told.{Told}
 
@@ -12,17 +12,13 @@ use Rattle.filestore.specs.declared.Told.{Told}
 abbrev pub four : Told → List ℕ
 four r = r .report ∷ r .first ∷ r .second ∷ r .third ∷ []
 
--- an answer in 01's numbers, with zeros up to four
-unfoldable pub inFour : Call → Answer → List ℕ
-inFour call answer = told call answer ++ replicate (3 - width call) 0
+-- an answer, with zeros up to four numbers
+unfoldable pub inFour : Answer → List ℕ
+inFour answer = answer ++ replicate (4 - length answer) 0
 
 -- a report alone
 abbrev pub alone : Report → List ℕ
 alone why = numberOf why ∷ 0 ∷ 0 ∷ 0 ∷ []
-
--- the struct tells an answer, of any call that answers so many numbers
-pub record Numbers (w : ℕ) (answer : Answer) (r : Told) : Type 0 where
-  pub of : (call : Call) → width call ≡ w → four r ≡ inFour call answer
 
 -- all that a program in another language can see of a call
 pub record Seen : Type 0 where
@@ -34,7 +30,7 @@ pub record Seen : Type 0 where
 pub record PromiseTold (call : Call) (t : Tables) (buffer : List ℕ) (o : Seen) : Type 0 where
   pub answer : Answer
   pub keeps : Promise call t buffer (record { answer = answer; buffer = o .buffer; tables = o .tables })
-  pub tells : four (o .told) ≡ inFour call answer
+  pub tells : four (o .told) ≡ inFour answer
 
 abbrev pub TellsInto : Call → Lent → Lent → Lent → Lent → Lent → Told → Type 0
 TellsInto call b br fr cr buffer r =

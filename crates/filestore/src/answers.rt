@@ -9,7 +9,7 @@ use meaning::Stat;
 use meaning::report_number;
 ghost use mathlib.Core.Path.{_≡_};
 ghost use Rattle.meaning.specs.Answers.{reported, opened, counted, sought, statOf, spaceOf};
-ghost use Rattle.filestore.specs.Tells.{four, alone, Numbers};
+ghost use Rattle.filestore.specs.Tells.{four, inFour, alone};
 
 // A report with zeros after it: a refusal of any call.
 fn tell_alone(report: Report) -> Told
@@ -25,13 +25,13 @@ fn tell_alone(report: Report) -> Told
 }
 
 pub fn tell_report(report: Report) -> Told
-    ensures { λ r. ⌜ Numbers 0 (reported report) r ⌝ }
+    ensures { λ r. ⌜ four r ≡ inFour (reported report) ⌝ }
 {
     tell_alone(report)
 }
 
 pub fn tell_opened(answer: Opened) -> Told
-    ensures { λ r. ⌜ Numbers 1 (opened answer) r ⌝ }
+    ensures { λ r. ⌜ four r ≡ inFour (opened answer) ⌝ }
 {
     match answer {
         Opened::At(c) => Told {
@@ -45,7 +45,7 @@ pub fn tell_opened(answer: Opened) -> Told
 }
 
 pub fn tell_counted(answer: Counted) -> Told
-    ensures { λ r. ⌜ Numbers 1 (counted answer) r ⌝ }
+    ensures { λ r. ⌜ four r ≡ inFour (counted answer) ⌝ }
 {
     match answer {
         Counted::Of(n) => Told {
@@ -59,7 +59,7 @@ pub fn tell_counted(answer: Counted) -> Told
 }
 
 pub fn tell_sought(answer: Sought) -> Told
-    ensures { λ r. ⌜ Numbers 1 (sought answer) r ⌝ }
+    ensures { λ r. ⌜ four r ≡ inFour (sought answer) ⌝ }
 {
     match answer {
         Sought::At(posn) => Told {
@@ -73,7 +73,7 @@ pub fn tell_sought(answer: Sought) -> Told
 }
 
 pub fn tell_stat(answer: Stat) -> Told
-    ensures { λ r. ⌜ Numbers 3 (statOf answer) r ⌝ }
+    ensures { λ r. ⌜ four r ≡ inFour (statOf answer) ⌝ }
 {
     match answer {
         Stat::Of(size, f, kind) => Told {
@@ -87,7 +87,7 @@ pub fn tell_stat(answer: Stat) -> Told
 }
 
 pub fn tell_space(answer: Space) -> Told
-    ensures { λ r. ⌜ Numbers 3 (spaceOf answer) r ⌝ }
+    ensures { λ r. ⌜ four r ≡ inFour (spaceOf answer) ⌝ }
 {
     match answer {
         Space::Of(blocks, files, channels) => Told {

@@ -1,5 +1,4 @@
 -- The call keeps its promise, and its answer is told.
-use Rattle.meaning.specs.Run.{width}
 use Rattle.filestore.specs.TellsLaws.{kept-told}
 use borrow.Author.Needs.{needs}
 use Rattle.filestore.proofs.filestore_close.Statement.{statement}
@@ -21,7 +20,6 @@ same-length-3 : tie.Need-same-length-3
 same-length-3 c = search needs
 
 returns : tie.Need-returns
-unfolding width
 returns c = search kept-told
 
 pub filestore-close-spec : {M : Type 1} → statement M

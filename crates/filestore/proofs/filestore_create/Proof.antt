@@ -1,5 +1,4 @@
 -- The call keeps its promise, and its answer is told.
-use Rattle.meaning.specs.Run.{width}
 use Rattle.filestore.specs.TellsLaws.{kept-told}
 use borrow.Author.Needs.{needs}
 use Rattle.filestore.proofs.filestore_create.Statement.{statement}
@@ -24,7 +23,6 @@ same-length-4 : tie.Need-same-length-4
 same-length-4 c = search needs
 
 returns : tie.Need-returns
-unfolding width
 returns c = search kept-told
 
 pub filestore-create-spec : {M : Type 1} → statement M

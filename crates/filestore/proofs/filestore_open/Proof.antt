@@ -1,5 +1,4 @@
 -- The call keeps its promise, and its answer is told.
-use Rattle.meaning.specs.Run.{width}
 use Rattle.filestore.specs.TellsLaws.{kept-told}
 use borrow.Author.Needs.{needs}
 use Rattle.filestore.proofs.filestore_open.Statement.{statement}
@@ -15,7 +14,6 @@ same-length : tie.Need-same-length
 same-length c = search needs
 
 returns : tie.Need-returns
-unfolding width
 returns c = search kept-told
 
 pub filestore-open-spec : {M : Type 1} → statement M

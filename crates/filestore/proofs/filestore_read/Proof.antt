@@ -1,5 +1,4 @@
 -- The call keeps its promise, and its answer is told.
-use Rattle.meaning.specs.Run.{width}
 use Rattle.filestore.specs.TellsLaws.{kept-told}
 use borrow.Author.Needs.{needs}
 use Rattle.filestore.proofs.filestore_read.Statement.{statement}
@@ -18,7 +17,6 @@ same-length-2 : tie.Need-same-length-2
 same-length-2 c = search needs
 
 returns : tie.Need-returns
-unfolding width
 returns c = search kept-told
 
 pub filestore-read-spec : {M : Type 1} → statement M

@@ -1,5 +1,4 @@
 -- The call keeps its promise, and its answer is told.
-use Rattle.meaning.specs.Run.{width}
 use Rattle.filestore.specs.TellsLaws.{kept-told}
 use borrow.Author.Needs.{needs}
 use Rattle.filestore.proofs.filestore_room.Statement.{statement}
@@ -12,7 +11,6 @@ tell-space-requires : tie.Need-tell-space-requires
 tell-space-requires c κs = search needs
 
 returns : tie.Need-returns
-unfolding width
 returns c = search kept-told
 
 pub filestore-room-spec : {M : Type 1} → statement M

@@ -1,23 +1,24 @@
 -- Each case is told as what it stands for.
 use Prim.Native.Nat.{ℕ}
 use mathlib.Core.Path.{_≡_}
+use native.Mathlib.Omega.{arith}
 use Rattle.meaning.specs.Answers.{counted}
 use Rattle.meaning.specs.declared.Report.{Report}
 use Rattle.meaning.specs.declared.Counted.{Counted}
 use Rattle.meaning.specs.declared.Counted.the-variants.{Of, Refused}
 use Rattle.filestore.specs.declared.Told.{Told}
-use Rattle.filestore.specs.Tells.{four, alone, Numbers}
+use Rattle.filestore.specs.Tells.{four, inFour, alone}
 use Rattle.filestore.specs.TellsLaws.{one-told, refusal-told}
 use borrow.Author.Needs.{needs}
 use Rattle.filestore.proofs.answers.tell_counted.Statement.{statement}
 use Rattle.filestore.proofs.answers.tell_counted.Tie as tie
 
 module _ (answer : Counted) where
-  accepted-told : (n : ℕ) → answer ≡ Of n → Numbers 1 (counted answer) (record { report = 0; first = n; second = 0; third = 0 })
+  accepted-told : (n : ℕ) → answer ≡ Of n → four (record { report = 0; first = n; second = 0; third = 0 }) ≡ inFour (counted answer)
   accepted-told n e = rw e (one-told n)
 
-  refused-told : (why : Report) (r : Told) → answer ≡ Refused why → four r ≡ alone why → Numbers 1 (counted answer) r
-  refused-told why r e a = rw e (refusal-told why r a 1)
+  refused-told : (why : Report) (r : Told) → answer ≡ Refused why → four r ≡ alone why → four r ≡ inFour (counted answer)
+  refused-told why r e a = rw e (refusal-told 1 why r (omega arith) a)
 
 enum-known-answer : tie.Need-enum-known-answer
 enum-known-answer c = search needs

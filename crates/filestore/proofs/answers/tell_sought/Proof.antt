@@ -1,23 +1,24 @@
 -- Each case is told as what it stands for.
 use Prim.Native.Nat.{ℕ}
 use mathlib.Core.Path.{_≡_}
+use native.Mathlib.Omega.{arith}
 use Rattle.meaning.specs.Answers.{sought}
 use Rattle.meaning.specs.declared.Report.{Report}
 use Rattle.meaning.specs.declared.Sought.{Sought}
 use Rattle.meaning.specs.declared.Sought.the-variants.{At, Refused}
 use Rattle.filestore.specs.declared.Told.{Told}
-use Rattle.filestore.specs.Tells.{four, alone, Numbers}
+use Rattle.filestore.specs.Tells.{four, inFour, alone}
 use Rattle.filestore.specs.TellsLaws.{one-told, refusal-told}
 use borrow.Author.Needs.{needs}
 use Rattle.filestore.proofs.answers.tell_sought.Statement.{statement}
 use Rattle.filestore.proofs.answers.tell_sought.Tie as tie
 
 module _ (answer : Sought) where
-  accepted-told : (posn : ℕ) → answer ≡ At posn → Numbers 1 (sought answer) (record { report = 0; first = posn; second = 0; third = 0 })
+  accepted-told : (posn : ℕ) → answer ≡ At posn → four (record { report = 0; first = posn; second = 0; third = 0 }) ≡ inFour (sought answer)
   accepted-told posn e = rw e (one-told posn)
 
-  refused-told : (why : Report) (r : Told) → answer ≡ Refused why → four r ≡ alone why → Numbers 1 (sought answer) r
-  refused-told why r e a = rw e (refusal-told why r a 1)
+  refused-told : (why : Report) (r : Told) → answer ≡ Refused why → four r ≡ alone why → four r ≡ inFour (sought answer)
+  refused-told why r e a = rw e (refusal-told 1 why r (omega arith) a)
 
 enum-known-answer : tie.Need-enum-known-answer
 enum-known-answer c = search needs

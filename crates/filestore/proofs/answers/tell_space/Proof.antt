@@ -1,23 +1,24 @@
 -- Each case is told as what it stands for.
 use Prim.Native.Nat.{ℕ}
 use mathlib.Core.Path.{_≡_}
+use native.Mathlib.Omega.{arith}
 use Rattle.meaning.specs.Answers.{spaceOf}
 use Rattle.meaning.specs.declared.Report.{Report}
 use Rattle.meaning.specs.declared.Space.{Space}
 use Rattle.meaning.specs.declared.Space.the-variants.{Of, Refused}
 use Rattle.filestore.specs.declared.Told.{Told}
-use Rattle.filestore.specs.Tells.{four, alone, Numbers}
+use Rattle.filestore.specs.Tells.{four, inFour, alone}
 use Rattle.filestore.specs.TellsLaws.{three-told, refusal-told}
 use borrow.Author.Needs.{needs}
 use Rattle.filestore.proofs.answers.tell_space.Statement.{statement}
 use Rattle.filestore.proofs.answers.tell_space.Tie as tie
 
 module _ (answer : Space) where
-  accepted-told : (blocks files channels : ℕ) → answer ≡ Of blocks files channels → Numbers 3 (spaceOf answer) (record { report = 0; first = blocks; second = files; third = channels })
+  accepted-told : (blocks files channels : ℕ) → answer ≡ Of blocks files channels → four (record { report = 0; first = blocks; second = files; third = channels }) ≡ inFour (spaceOf answer)
   accepted-told blocks files channels e = rw e (three-told blocks files channels)
 
-  refused-told : (why : Report) (r : Told) → answer ≡ Refused why → four r ≡ alone why → Numbers 3 (spaceOf answer) r
-  refused-told why r e a = rw e (refusal-told why r a 3)
+  refused-told : (why : Report) (r : Told) → answer ≡ Refused why → four r ≡ alone why → four r ≡ inFour (spaceOf answer)
+  refused-told why r e a = rw e (refusal-told 3 why r (omega arith) a)
 
 enum-known-answer : tie.Need-enum-known-answer
 enum-known-answer c = search needs

@@ -1,24 +1,25 @@
 -- Each case is told as what it stands for.
 use Prim.Native.Nat.{ℕ}
 use mathlib.Core.Path.{_≡_}
+use native.Mathlib.Omega.{arith}
 use Rattle.meaning.specs.Answers.{statOf}
 use Rattle.meaning.specs.declared.Report.{Report}
 use Rattle.meaning.specs.declared.FileNo.{FileNo}
 use Rattle.meaning.specs.declared.Stat.{Stat}
 use Rattle.meaning.specs.declared.Stat.the-variants.{Of, Refused}
 use Rattle.filestore.specs.declared.Told.{Told}
-use Rattle.filestore.specs.Tells.{four, alone, Numbers}
+use Rattle.filestore.specs.Tells.{four, inFour, alone}
 use Rattle.filestore.specs.TellsLaws.{three-told, refusal-told}
 use borrow.Author.Needs.{needs}
 use Rattle.filestore.proofs.answers.tell_stat.Statement.{statement}
 use Rattle.filestore.proofs.answers.tell_stat.Tie as tie
 
 module _ (answer : Stat) where
-  accepted-told : (size : ℕ) (f : FileNo) (kind : ℕ) → answer ≡ Of size f kind → Numbers 3 (statOf answer) (record { report = 0; first = size; second = f .0; third = kind })
+  accepted-told : (size : ℕ) (f : FileNo) (kind : ℕ) → answer ≡ Of size f kind → four (record { report = 0; first = size; second = f .0; third = kind }) ≡ inFour (statOf answer)
   accepted-told size f kind e = rw e (three-told size (f .0) kind)
 
-  refused-told : (why : Report) (r : Told) → answer ≡ Refused why → four r ≡ alone why → Numbers 3 (statOf answer) r
-  refused-told why r e a = rw e (refusal-told why r a 3)
+  refused-told : (why : Report) (r : Told) → answer ≡ Refused why → four r ≡ alone why → four r ≡ inFour (statOf answer)
+  refused-told why r e a = rw e (refusal-told 3 why r (omega arith) a)
 
 enum-known-answer : tie.Need-enum-known-answer
 enum-known-answer c = search needs
