@@ -5,6 +5,7 @@ pub mod SyllableLaws
 pub mod ReadLaws
 pub mod LastSyllable
 pub mod FormLaws
+pub mod LongNames
 pub mod Spelling
 pub mod RecordLaws
 pub mod RecordNames

@@ -10,6 +10,9 @@ ghost use Rattle.meaning.specs.Name.{isSyllable, syllables, same, entry, entryI
 ghost use Rattle.names.specs.Syllables.{part, lastStart, formOf};
 ghost use Rattle.names.specs.RecordNames.{recordFrom, padded};
 
+// No name is longer: eight syllables of 14 bytes, each after a slash.
+const LONGEST_NAME: usize = 120;
+
 // What a row of bytes is as a name: how many syllables it has, or that it is not written as a name.
 pub enum NameForm {
     Syllables(usize),
@@ -63,11 +66,14 @@ fn count_syllables(name: &[u8]) -> NameForm
     NameForm::Bad
 }
 
-// Whether a row of bytes is written as a name, and how many syllables it has.
+// Whether a row of bytes is written as a name, and how many syllables it has. A row that is too long is not looked at.
 pub fn name_form(name: &[u8]) -> NameForm
     ensures { λ r. ⌜ r ≡ formOf (syllables (now (name .entry))) ⌝ }
 {
     if name.len() == 0 {
+        return NameForm::Bad;
+    }
+    if LONGEST_NAME < name.len() {
         return NameForm::Bad;
     }
     if name[0] != b'/' {
