@@ -18,3 +18,4 @@ pub mod Running
 pub mod Figures
 pub mod Damage
 pub mod Sessions
+pub mod Full
