@@ -29,6 +29,10 @@ pub mod Unlinking
 pub mod Linking
 pub mod Emptying
 pub mod Creating
+pub mod Composition
+pub mod FreeingLaws
+pub mod MoveSteps
+pub mod Moved
 pub mod Moving
 pub mod Listing
 pub mod Contents

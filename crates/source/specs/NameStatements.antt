@@ -10,7 +10,7 @@ use Rattle.meaning.specs.Store.{Store, afterAll}
 use Rattle.meaning.specs.NameCalls.{create, link, unlink, move, ls}
 use Rattle.source.specs.Naming.{NAME, moveNS}
 use Rattle.source.specs.Filing.{State, lsFS}
-use Rattle.source.specs.Departures.{createFS, unlinking, linking, moving}
+use Rattle.source.specs.Departures.{createFS, unlinking, linking, moving, Moved}
 use Rattle.source.specs.View.{view, Listed}
 use Rattle.source.specs.Accepted.{Ready, Accepted}
 
@@ -35,13 +35,14 @@ LinkHolds =
     → Accepted (link old new s) λ numbers none changes.
     linking oldname newname (view s) (view (afterAll s changes)) × (numbers ≡ []) × SameDirectories (view s) (view (afterAll s changes))
 
--- move: link and unlink composed; the name store is then as moveNS says
+-- move: link and unlink composed; the name store is then as moveNS says, and of moveFS holds what Moved says
 abbrev pub MoveHolds : Type 0
 MoveHolds =
     (s : Store) → Ready s → (old new : List ℕ) (oldname newname : NAME) → syllables old ≡ some oldname → syllables new ≡ some newname
     → Accepted (move old new s) λ numbers none changes.
     moving oldname newname (view s) (view (afterAll s changes)) × (numbers ≡ []) × SameDirectories (view s) (view (afterAll s changes))
     × ((fid : ℕ) × moveNS (view s .nstore) (view (afterAll s changes) .nstore) oldname newname fid)
+    × Moved oldname newname (view s) (view (afterAll s changes))
 
 -- ls: the count, and that many rows of 14 bytes, whose syllables are the directory's contents
 abbrev pub LsHolds : Type 0
