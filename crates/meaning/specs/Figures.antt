@@ -10,11 +10,9 @@ use Rattle.meaning.specs.File.{readFILE, writeFILE, needed}
 use Rattle.meaning.specs.Name.{syllables, same, entry, written}
 use Rattle.meaning.specs.Store.{Store, afterAll, noFile, directory, ordinary, channelTo, noChannel}
 use Rattle.meaning.specs.Result.{Result}
-use Rattle.meaning.specs.ChannelCalls.{seekTo}
-use Rattle.meaning.specs.Run.{Call, Seek, Write, meaning, told, answerOf, changesOf, numberOf}
+use Rattle.meaning.specs.Run.{Call, Open, Seek, Write, meaning, answerOf, changesOf}
 use Rattle.meaning.specs.Running.{wrongFrom}
 use Rattle.meaning.specs.Text.{text}
-use Rattle.meaning.specs.declared.Report.the-variants.{BadName}
 
 -- what a figure gives, beside what 01 says
 pub record Row : Type 0 where
@@ -35,10 +33,10 @@ wrongRows (r ∷ rows) = let rest = wrongRows rows in pick (same (r .gives) (r .
 numeral : ℕ → List ℕ
 numeral n = n ∷ []
 
--- a name's count of syllables behind report 0, or BadName
+-- how many syllables a name has; nothing where it is not written as a name
 counted : Option (List (List ℕ)) → List ℕ
-counted none = numeral (numberOf BadName)
-counted (some name) = 0 ∷ numeral (length name)
+counted none = []
+counted (some name) = numeral (length name)
 
 -- a name of one syllable of n bytes
 long : ℕ → List ℕ
@@ -57,7 +55,7 @@ holding bytes posn =
 
 -- what a call says on such a store
 saysOf : Call → Store → List ℕ
-saysOf call s = told call (answerOf (meaning call s))
+saysOf call s = answerOf call (meaning call s)
 
 -- the length of file 2 after a call
 lengthAfter : Call → Store → ℕ
@@ -74,17 +72,22 @@ table =
     ∷ row 6 (needed 0 ∷ needed 1 ∷ needed 512 ∷ needed 513 ∷ []) (0 ∷ 1 ∷ 1 ∷ 2 ∷ [])
     ∷ row 7 (numeral (lengthAfter (Write 0 (text "X")) (holding [] 32767))) (numeral 32768)
     ∷ row 7 (saysOf (Write 0 (text "X")) (holding [] 32768)) (10 ∷ 0 ∷ [])
-    ∷ row 8 (counted (syllables (text "/"))) (0 ∷ 0 ∷ [])
-    ∷ row 8 (counted (syllables (text "/a/b"))) (0 ∷ 2 ∷ [])
-    ∷ row 8 (counted (syllables (text ""))) (2 ∷ [])
-    ∷ row 8 (counted (syllables (text "a"))) (2 ∷ [])
-    ∷ row 8 (counted (syllables (text "/a/"))) (2 ∷ [])
-    ∷ row 8 (counted (syllables (text "//a"))) (2 ∷ [])
-    ∷ row 8 (counted (syllables (long 14))) (0 ∷ 1 ∷ [])
-    ∷ row 8 (counted (syllables (long 15))) (2 ∷ [])
+    ∷ row 8 (counted (syllables (text "/"))) (0 ∷ [])
+    ∷ row 8 (counted (syllables (text "/a/b"))) (2 ∷ [])
+    ∷ row 8 (saysOf (Open (text "")) (holding [] 0)) (2 ∷ 0 ∷ [])
+    ∷ row 8 (saysOf (Open (text "a")) (holding [] 0)) (2 ∷ 0 ∷ [])
+    ∷ row 8 (saysOf (Open (text "/a/")) (holding [] 0)) (2 ∷ 0 ∷ [])
+    ∷ row 8 (saysOf (Open (text "//a")) (holding [] 0)) (2 ∷ 0 ∷ [])
+    ∷ row 8 (counted (syllables (long 14))) (1 ∷ [])
+    ∷ row 8 (saysOf (Open (long 14)) (holding [] 0)) (4 ∷ 0 ∷ [])
+    ∷ row 8 (saysOf (Open (long 15)) (holding [] 0)) (2 ∷ 0 ∷ [])
     ∷ row 9 (written (entry 2 (text "x"))) (2 ∷ 0 ∷ 0x78 ∷ replicate 13 0)
-    ∷ row 10 (seekTo 0 3 10 2 ∷ seekTo 1 3 10 2 ∷ seekTo 2 3 10 2 ∷ []) (2 ∷ 5 ∷ 12 ∷ [])
-    ∷ row 10 (seekTo 3 3 10 2 ∷ seekTo 4 3 10 2 ∷ seekTo 5 3 10 2 ∷ []) (1024 ∷ 1027 ∷ 1034 ∷ [])
+    ∷ row 10 (saysOf (Seek 0 0 2) (holding (text "0123456789") 3)) (0 ∷ 2 ∷ [])
+    ∷ row 10 (saysOf (Seek 0 1 2) (holding (text "0123456789") 3)) (0 ∷ 5 ∷ [])
+    ∷ row 10 (saysOf (Seek 0 2 2) (holding (text "0123456789") 3)) (0 ∷ 12 ∷ [])
+    ∷ row 10 (saysOf (Seek 0 3 2) (holding (text "0123456789") 3)) (0 ∷ 1024 ∷ [])
+    ∷ row 10 (saysOf (Seek 0 4 2) (holding (text "0123456789") 3)) (0 ∷ 1027 ∷ [])
+    ∷ row 10 (saysOf (Seek 0 5 2) (holding (text "0123456789") 3)) (0 ∷ 1034 ∷ [])
     ∷ row 11 (saysOf (Seek 0 3 32767) (holding [] 0)) (0 ∷ 16776704 ∷ [])
     ∷ row 11 (saysOf (Seek 0 3 32768) (holding [] 0)) (11 ∷ 0 ∷ [])
     ∷ []

@@ -9,8 +9,9 @@ pub mod Tables
 pub mod Sound
 pub mod Run
 pub mod Determined
-pub mod PromiseLaws
 pub mod Answers
+pub mod Refusals
+pub mod PromiseLaws
 pub mod Outcomes
 pub mod Text
 pub mod Running

@@ -4,6 +4,8 @@ use mathlib.Core.Path.{_≡_}
 use mathlib.Core.List.{List, [], _∷_}
 use mathlib.Core.Bool.{Bool, not}
 use lib.ListN.{replicate}
+use lib.Dec.{eqb}
+use Rattle.records.specs.Rows.{pick}
 use denote.Ref.{RefT}
 use denote.Triple.Both.{Both}
 use Rattle.meaning.specs.File.{over}
@@ -90,26 +92,8 @@ numberOf NotEmpty = 13
 numberOf OutShort = 14
 numberOf InUse = 15
 
--- what a caller is told: a refusal's report, or the numbers of an accepted call
-pub data Answer : Type 0 where
-  refusal : Report → Answer
-  numbers : List ℕ → Answer
-
-unfoldable pub answerOf : Result → Answer
-answerOf (refused why) = refusal why
-answerOf (done ns bytes changes) = numbers ns
-
--- the bytes for the lent buffer
-unfoldable pub bytesOf : Result → List ℕ
-bytesOf (refused why) = []
-bytesOf (done ns bytes changes) = bytes
-
-unfoldable pub changesOf : Result → List Change
-changesOf (refused why) = []
-changesOf (done ns bytes changes) = changes
-
 -- how many numbers a call answers beside its report
-unfoldable pub width : Call → ℕ
+abbrev pub width : Call → ℕ
 width Prepare = 0
 width Room = 3
 width (Create name) = 1
@@ -126,14 +110,34 @@ width (Read c count) = 1
 width (Write c bytes) = 1
 width (Seek c mode n) = 1
 
--- an answer in 01's numbers: the report, then the values; a refusal has every other number zero
-unfoldable pub told : Call → Answer → List ℕ
-told call (refusal why) = numberOf why ∷ replicate (width call) 0
-told call (numbers ns) = numberOf Ok ∷ ns
+-- what a caller is told: the report's number, then the values
+abbrev pub Answer : Type 0
+Answer = List ℕ
+
+-- an accepted call: 0, then its numbers
+abbrev pub accepted : List ℕ → Answer
+accepted ns = numberOf Ok ∷ ns
+
+-- a refusal: its report's number, and every other number zero. Ok is no refusal: where numbers follow a report, it has no such row
+unfoldable pub refusal : ℕ → Report → Answer
+refusal n why = numberOf why ∷ pick (eqb (numberOf why) 0) [] (replicate {A = ℕ} n 0)
+
+unfoldable pub answerOf : Call → Result → Answer
+answerOf call (refused why) = refusal (width call) why
+answerOf call (done ns bytes changes) = accepted ns
+
+-- the bytes for the lent buffer
+unfoldable pub bytesOf : Result → List ℕ
+bytesOf (refused why) = []
+bytesOf (done ns bytes changes) = bytes
+
+unfoldable pub changesOf : Result → List Change
+changesOf (refused why) = []
+changesOf (done ns bytes changes) = changes
 
 -- ---- outcomes and promises
 
--- all that a caller can see of a call: the answer, the lent buffer and the tables afterwards
+-- all that a caller can see of a call: the answer in 01's numbers, the lent buffer and the tables afterwards
 pub record Outcome : Type 0 where
   pub answer : Answer
   pub buffer : List ℕ
@@ -143,11 +147,11 @@ pub record Outcome : Type 0 where
 unfoldable pub run : Call → Tables → List ℕ → Outcome
 run call t buffer =
     let r = resultOf call t in
-    record { answer = answerOf r; buffer = over buffer (bytesOf r); tables = putAll t (changesOf r) }
+    record { answer = answerOf call r; buffer = over buffer (bytesOf r); tables = putAll t (changesOf r) }
 
 -- the promise of every call: the answer, the lent buffer and every byte of the tables
 pub record Promise (call : Call) (t : Tables) (buffer : List ℕ) (o : Outcome) : Type 0 where
-  pub answers : o .answer ≡ answerOf (resultOf call t)
+  pub answers : o .answer ≡ answerOf call (resultOf call t)
   pub fills : o .buffer ≡ over buffer (bytesOf (resultOf call t))
   pub leaves : o .tables ≡ putAll t (changesOf (resultOf call t))
 

@@ -180,6 +180,24 @@ rooms : wrong (zeroed 2 4 2) (
 unfolding wrong
 rooms = refl
 
+-- a new record that needs a block, where none is free: no call gives the name, and nothing is made
+records : wrong (zeroed 1 4 2) (
+    step Prepare (0 ∷ [])
+    ∷ step (Mkdir (text "/d")) (0 ∷ [])
+    ∷ step (Create (text "/d/x")) (9 ∷ 0 ∷ [])
+    ∷ step (Mkdir (text "/d/x")) (9 ∷ [])
+    ∷ step (Create (text "/a")) (0 ∷ 0 ∷ [])
+    ∷ step (Link (text "/a") (text "/d/x")) (9 ∷ [])
+    ∷ step (Move (text "/a") (text "/d/x")) (9 ∷ [])
+    ∷ step (Ls (text "/d") 28) (0 ∷ 0 ∷ [])
+    ∷ step (Link (text "/a") (text "/x")) (0 ∷ [])
+    ∷ step (Move (text "/a") (text "/y")) (0 ∷ [])
+    ∷ step Room (0 ∷ 0 ∷ 1 ∷ 1 ∷ [])
+    ∷ [])
+    ≡ []
+unfolding wrong
+records = refl
+
 -- no file number is free: no record is filled; then no block for the record
 numbers : wrong (zeroed 1 2 2) (
     step Prepare (0 ∷ [])
