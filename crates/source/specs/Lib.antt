@@ -43,3 +43,5 @@ pub mod ErrorProofs
 pub mod NameErrors
 pub mod WholeCalls
 pub mod DirectoryErrors
+pub mod OutcomeStatements
+pub mod Outcomes
