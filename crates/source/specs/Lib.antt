@@ -45,3 +45,4 @@ pub mod WholeCalls
 pub mod DirectoryErrors
 pub mod OutcomeStatements
 pub mod Outcomes
+pub mod OutcomeErrors

@@ -2,7 +2,7 @@
 -- leaves them, with the outcome's own numbers and the first bytes of its lent buffer as the schema's outputs.
 use Prim.Native.Nat.{ℕ, _*_}
 use mathlib.Core.Path.{_≡_}
-use mathlib.Core.Logic.{_≢_, _⊎_}
+use mathlib.Core.Logic.{_≢_, _⊎_, _↔_}
 use mathlib.Core.List.{List, [], _∷_}
 use mathlib.Core.Bool.{true}
 use mathlib.Core.Option.{some}
@@ -18,6 +18,7 @@ use Rattle.source.specs.Naming.{NAME}
 use Rattle.source.specs.Filing.{State, readFS, openFS, CidErr, NameErr, ChanErr}
 use Rattle.source.specs.View.{view}
 use Rattle.source.specs.ChannelStatements.{OfRead, OfWrite, OfSeek, OfFstat, OfClose, OfOpen}
+use Rattle.source.specs.ErrorStatements.{CidErrs, NameErrs, ChanErrs, DirectoryErrs}
 use Rattle.source.specs.NameStatements.{OfCreate, OfUnlink, OfLink, OfMove, OfLs}
 
 -- the source's state of tables
@@ -84,6 +85,18 @@ abbrev pub RefusedUnaltered : Type 0
 RefusedUnaltered =
     (call : Call) (t : Tables) (buffer : List ℕ) (o : Outcome) → Promise call t buffer o → (why : Report) → why ≢ Ok → (numbers : List ℕ) → o .answer ≡ numberOf why ∷ numbers
     → (numbers ≡ replicate (width call) 0) × (o .buffer ≡ buffer) × (o .tables ≡ t) × (stateOf (o .tables) ≡ stateOf t)
+
+-- an outcome reports an error exactly where its cause holds of the store that the tables hold (the causes of ErrorStatements)
+abbrev pub OnOutcomes : Call → Report → (Store → Type 0) → Type 0
+OnOutcomes call why cause =
+    (t : Tables) (buffer : List ℕ) (o : Outcome) → Kept call t buffer o
+    → ((numbers : List ℕ) × (o .answer ≡ numberOf why ∷ numbers)) ↔ cause (storeOf t)
+
+pub record OutcomeErrs : Type 0 where
+  pub channels : CidErrs OnOutcomes
+  pub names : NameErrs OnOutcomes OnOutcomes
+  pub free : ChanErrs OnOutcomes
+  pub directories : DirectoryErrs OnOutcomes OnOutcomes
 
 -- ---- figures 4.1 and 4.2 of outcomes
 
