@@ -46,3 +46,5 @@ pub mod DirectoryErrors
 pub mod OutcomeStatements
 pub mod Outcomes
 pub mod OutcomeErrors
+pub mod Limits
+pub mod LimitProofs
