@@ -48,3 +48,6 @@ pub mod Outcomes
 pub mod OutcomeErrors
 pub mod Limits
 pub mod LimitProofs
+pub mod LimitErrors
+pub mod LimitCauses
+pub mod LimitErrorProofs
