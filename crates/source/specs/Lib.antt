@@ -29,7 +29,7 @@ pub mod Unlinking
 pub mod Linking
 pub mod Emptying
 pub mod Creating
-pub mod Composition
+pub mod Claims
 pub mod FreeingLaws
 pub mod MoveSteps
 pub mod Moved
