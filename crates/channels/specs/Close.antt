@@ -5,8 +5,7 @@ use mathlib.Core.List.{List, [], _∷_}
 use Rattle.meaning.specs.Store.{file, channel, noFile, noChannel}
 use Rattle.meaning.specs.Tables.{Tables, channelCount}
 use Rattle.meaning.specs.Result.{Result, refused, done}
-use Rattle.meaning.specs.Run.{Call, resultOf, refusal}
-use Rattle.meaning.specs.Answers.{reported}
+use Rattle.meaning.specs.Run.{Call, resultOf}
 use Rattle.files.specs.Files.{Clearable}
 use Rattle.channels.specs.declared.Closing.{Closing}
 use Rattle.channels.specs.declared.Closing.the-variants.{Alone, WithFile, No}
@@ -17,11 +16,11 @@ planned c Alone = done [] [] (channel c noChannel ∷ [])
 planned c (WithFile f) = done [] [] (channel c noChannel ∷ file (f .0) noFile ∷ [])
 planned c (No why) = refused why
 
--- the records that it has written are the tables'; the report of a refusal is not Ok
+-- the records that it has written are the tables'
 abbrev pub Inside : Tables → ℕ → Closing → Type 0
 Inside t c Alone = c < channelCount (t .channelRecords)
 Inside t c (WithFile f) = (c < channelCount (t .channelRecords)) × Clearable (t .blockRecords) (t .fileRecords) (f .0)
-Inside t c (No why) = reported why ≡ refusal why
+Inside t c (No why) = Unit {0}
 
 pub record Closes (t : Tables) (c : ℕ) (d : Closing) : Type 0 where
   pub means : planned c d ≡ resultOf (Call.Close c) t

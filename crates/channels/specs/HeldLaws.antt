@@ -14,8 +14,6 @@ use Rattle.meaning.specs.Tables.{Tables, tables, storeOf, channelOf, fileCount,
 use Rattle.meaning.specs.Sound.{sound}
 use Rattle.meaning.specs.ChannelCalls.{lastPosition}
 use Rattle.meaning.specs.Result.{Result, refused, done, unless, onChannel}
-use Rattle.meaning.specs.Run.{refusal, numberOf}
-use Rattle.meaning.specs.Answers.{reported}
 use Rattle.meaning.specs.declared.Report.{Report}
 use Rattle.meaning.specs.declared.Report.the-variants.{NotAStore, NoSuchCid}
 use Rattle.tables.specs.declared.ChannelRecord.{ChannelRecord}
@@ -91,21 +89,6 @@ module _ (t : Tables) (c : ℕ) (y : ChannelRecord) (h : Holds t c y) where
 
   pub kind-is : storeOf t .file (storeOf t .channel c .file) .kind ≡ kindAt (t .fileRecords) (y .file .0 - 1)
   kind-is = ap (λ f. storeOf t .file f .kind) (sym (h .file)) ∙ store-kind t (y .file .0) (file-there .0)
-
--- ---- a refusal's report is not Ok
-
-module _ (why : Report) where
-  is-refusal : (cause : Report) → reported cause ≡ refusal cause → refused why ≡ refused cause → reported why ≡ refusal why
-  is-refusal cause r e = let same : why ≡ cause = cc in rw same r
-
-  pub refused-report : (t : Tables) (c : ℕ) (h : Held) → OnChannel t c h → h ≡ Refused why → reported why ≡ refusal why
-  unfolding onChannelOf onChannel unless reported numberOf
-  refused-report t c h on e = go (sound t) (isOpen (storeOf t) c) (refuses t c h on why e (done [] [] []))
-    where
-      go : (ok is : Bool) → refused why ≡ unless (not ok) NotAStore (unless (not is) NoSuchCid (done [] [] [])) → reported why ≡ refusal why
-      go false is r = is-refusal NotAStore refl r
-      go true false r = is-refusal NoSuchCid refl r
-      go true true r = cc
 
 -- the same, as a need asks it: the file's record lies in its table
 module _ (b br fr cr : List ℕ) (c : ℕ) (h : Held) (on : OnChannel (tables b br fr cr) c h) (y : ChannelRecord) (e : h ≡ Open y) where

@@ -10,8 +10,7 @@ use Rattle.meaning.specs.Store.{file, directory, isDirectory}
 use Rattle.meaning.specs.NameCalls.{rewritten}
 use Rattle.meaning.specs.Tables.{Tables, tables, storeOf}
 use Rattle.meaning.specs.Result.{Result, refused, done}
-use Rattle.meaning.specs.Run.{Call, resultOf, refusal}
-use Rattle.meaning.specs.Answers.{reported}
+use Rattle.meaning.specs.Run.{Call, resultOf}
 use Rattle.names.specs.Syllables.{part, lastStart}
 use Rattle.soundness.specs.Seen.{filesStore}
 use Rattle.lookup.specs.Filed.{filed}
@@ -46,7 +45,7 @@ pub record Names (t : Tables) (bytes : List ℕ) (d i f : ℕ) : Type 0 where
 
 abbrev pub Inside : Tables → List ℕ → Making → Type 0
 Inside t bytes (Of d i f depth) = Names t bytes (d .0) i (f .0)
-Inside t bytes (No why) = reported why ≡ refusal why
+Inside t bytes (No why) = Unit {0}
 
 pub record Made (t : Tables) (bytes : List ℕ) (d : Making) : Type 0 where
   pub means : planned t bytes d ≡ resultOf (Call.Mkdir bytes) t

@@ -13,15 +13,13 @@ use Rattle.meaning.specs.Tables.{Tables, storeOf, fileCount, fileLength, depthA
 use Rattle.meaning.specs.File.{needed, longest}
 use Rattle.meaning.specs.NameCalls.{parent, recordFor, rewritten, naming, ifNamingFits, mkdir}
 use Rattle.meaning.specs.Result.{Result, refused, done, unless, missing, nowhere, allUsed}
-use Rattle.meaning.specs.Run.{Call, resultOf, meaning, accepts, numberOf}
-use Rattle.meaning.specs.Answers.{reported}
+use Rattle.meaning.specs.Run.{Call, resultOf, meaning, accepts}
 use Rattle.meaning.specs.declared.Report.{Report}
 use Rattle.meaning.specs.declared.Report.the-variants.{BadName, NoSuchName, NameInUse, NoFreeFids}
 use Rattle.tables.specs.Searches.{fileWith, freeBlockCount}
 use Rattle.soundness.specs.Seen.{filesStore}
 use Rattle.naming.specs.Judged.{Spelled, OnName, onNameOf, refuses, gives}
 use Rattle.naming.specs.At.{At, follows, is-missing, not-missing, is-nowhere, somewhere, there}
-use Rattle.naming.specs.InStore.{refusal-told}
 use Rattle.naming.specs.declared.Judged.{Judged}
 use Rattle.naming.specs.declared.Judged.the-variants.{Refused}
 use Rattle.naming.specs.declared.Located.{Located}
@@ -32,7 +30,7 @@ use Rattle.recording.specs.declared.Fit.the-variants as F
 use Rattle.folders.specs.Make.{Made}
 use Rattle.placing.specs.Free.{file-free, no-file-free, some-file-free}
 use Rattle.placing.specs.NewName.{fits-is, same-naming}
-use Rattle.folders.specs.MakeLaws.{fit-told, its-depth, can}
+use Rattle.folders.specs.MakeLaws.{its-depth, can}
 use Rattle.folders.specs.declared.Making.the-variants.{Of, No}
 
 abbrev rest : Tables → List (List ℕ) → Result
@@ -52,13 +50,13 @@ unfolding resultOf meaning accepts mkdir onNameOf
 on-name t bytes = refl
 
 pub refused-so : (t : Tables) (bytes : List ℕ) (h : Judged) → OnName t bytes h → (why : Report) → h ≡ Refused why → Made t bytes (No why)
-refused-so t bytes h on why e = record { means = refuses t bytes h on why e (rest t) ∙ on-name t bytes; inside = refusal-told t bytes h on why e }
+refused-so t bytes h on why e = record { means = refuses t bytes h on why e (rest t) ∙ on-name t bytes; inside = tt }
 
 pub too-deep : (t : Tables) (bytes : List ℕ) (k : ℕ) → Spelled t bytes k → k ≡ 8 → Made t bytes (No BadName)
-unfolding unless reported numberOf
+unfolding unless
 too-deep t bytes k spelled e =
     let given : rest t (spelled .counted .name) ≡ resultOf (Call.Mkdir bytes) t = gives t bytes k spelled (rest t) ∙ on-name t bytes in
-    record { means = rw (eq-eqb (length (spelled .counted .name)) mostSyllables (spelled .counted .count ∙ e)) at given; inside = refl }
+    record { means = rw (eq-eqb (length (spelled .counted .name)) mostSyllables (spelled .counted .count ∙ e)) at given; inside = tt }
 
 module _ (t : Tables) (bytes : List ℕ) (k : ℕ) (x : Located) (a : At t bytes k x) where
   abbrev s : Store
@@ -72,21 +70,21 @@ module _ (t : Tables) (bytes : List ℕ) (k : ℕ) (x : Located) (a : At t bytes
     not-deep = ne-eqb (length (a .name)) mostSyllables (λ e. few (sym (a .count) ∙ e))
 
     pub in-use : x .file .0 ≢ 0 → Made t bytes (No NameInUse)
-    unfolding unless reported numberOf
-    in-use some = record { means = rw (not-deep, there t bytes k x a some, not-missing t bytes k x a some) at given; inside = refl }
+    unfolding unless
+    in-use some = record { means = rw (not-deep, there t bytes k x a some, not-missing t bytes k x a some) at given; inside = tt }
 
     module _ (none : x .file .0 ≡ 0) where
       pub no-directory : isDirectory (filesStore (t .fileRecords)) (x .parent .0) ≡ false → Made t bytes (No NoSuchName)
-      unfolding unless reported numberOf
-      no-directory e = record { means = rw (not-deep, is-nowhere t bytes k x a none e) at given; inside = refl }
+      unfolding unless
+      no-directory e = record { means = rw (not-deep, is-nowhere t bytes k x a none e) at given; inside = tt }
 
       module _ (is : isDirectory (filesStore (t .fileRecords)) (x .parent .0) ≡ true) (r : ℕ) (free : r ≡ fileWith (t .fileRecords) 0) where
         pub here : nowhere s (a .name) ≡ false
         here = somewhere t bytes k x a none is
 
         pub no-file : r ≡ fileCount (t .fileRecords) → Made t bytes (No NoFreeFids)
-        unfolding unless reported numberOf
-        no-file e = record { means = rw (not-deep, here, is-missing t bytes k x a none, no-file-free t r free e) at given; inside = refl }
+        unfolding unless
+        no-file e = record { means = rw (not-deep, here, is-missing t bytes k x a none, no-file-free t r free e) at given; inside = tt }
 
         module _ (some : r ≢ fileCount (t .fileRecords)) (i : ℕ) (found : i ≡ recordFor s (a .name)) where
           abbrev size : ℕ
@@ -106,7 +104,7 @@ module _ (t : Tables) (bytes : List ℕ) (k : ℕ) (x : Located) (a : At t bytes
             pub no-fit : (why : Report) → fit ≡ F.No why → Made t bytes (No why)
             no-fit why e =
                 let refuses-so : (r : Result) → refused why ≡ ifFitsIn (freeBlockCount (t .blockRecords)) size end r = subst (FitsIn (freeBlockCount (t .blockRecords)) size end) e fits in
-                record { means = refuses-so made ∙ by-room; inside = fit-told (freeBlockCount (t .blockRecords)) size end why refuses-so }
+                record { means = refuses-so made ∙ by-room; inside = tt }
 
             pub makes : fit ≡ F.Fits → (depth : ℕ) → depth ≡ depthAt (t .fileRecords) (x .parent .0 - 1) → Made t bytes (Of (x .parent) i (record { 0 = r + 1 }) (depth + 1))
             unfolding ifFitsIn unless

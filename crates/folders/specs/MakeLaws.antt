@@ -10,8 +10,7 @@ use Rattle.meaning.specs.Store.{Store, file, directory}
 use Rattle.meaning.specs.Tables.{Tables, storeOf, depthAt}
 use Rattle.meaning.specs.Result.{Result, refused, done, unless, nowhere}
 use Rattle.meaning.specs.NameCalls.{parent, recordFor, rewritten, mkdir}
-use Rattle.meaning.specs.Run.{Call, resultOf, meaning, accepts, refusal, numberOf}
-use Rattle.meaning.specs.Answers.{reported}
+use Rattle.meaning.specs.Run.{Call, resultOf, meaning, accepts}
 use Rattle.meaning.specs.declared.Report.{Report}
 use Rattle.meaning.specs.declared.Report.the-variants.{NoRoom, TooBig}
 use Rattle.tables.specs.StoreLaws.{store-depth}
@@ -30,16 +29,6 @@ use Rattle.placing.specs.Free.{sized}
 use Rattle.placing.specs.NewName.{vacancy, more, in-directory, few-records}
 use Rattle.folders.specs.Acts.{able}
 use Rattle.folders.specs.Make.{Names}
-
--- the refusals of a record that does not fit have reports of their own
-pub fit-told : (free old new : ℕ) (why : Report) → ((r : Result) → refused why ≡ ifFitsIn free old new r) → reported why ≡ refusal why
-unfolding ifFitsIn unless reported numberOf
-fit-told free old new why e = go (ltb longest new) (ltb free (needed new - needed old)) (e (refused TooBig))
-  where
-    go : (big full : Bool) → refused why ≡ unless big TooBig (unless full NoRoom (refused TooBig)) → reported why ≡ refusal why
-    go true full e = let so : why ≡ TooBig = cc in rw so
-    go false true e = let so : why ≡ NoRoom = cc in rw so
-    go false false e = let so : why ≡ TooBig = cc in rw so
 
 -- ---- a new name
 

@@ -7,8 +7,7 @@ use Rattle.meaning.specs.Store.{file, noFile}
 use Rattle.meaning.specs.NameCalls.{rewritten}
 use Rattle.meaning.specs.Tables.{Tables, storeOf}
 use Rattle.meaning.specs.Result.{Result, refused, done}
-use Rattle.meaning.specs.Run.{Call, resultOf, refusal}
-use Rattle.meaning.specs.Answers.{reported}
+use Rattle.meaning.specs.Run.{Call, resultOf}
 use Rattle.folders.specs.Acts.{Able}
 use Rattle.folders.specs.declared.Removing.{Removing}
 use Rattle.folders.specs.declared.Removing.the-variants.{Of, No}
@@ -20,7 +19,7 @@ planned t (No why) = refused why
 
 abbrev pub Inside : Tables → Removing → Type 0
 Inside t (Of d i f) = Able t (d .0) i blankRecord (f .0)
-Inside t (No why) = reported why ≡ refusal why
+Inside t (No why) = Unit {0}
 
 pub record Removed (t : Tables) (bytes : List ℕ) (d : Removing) : Type 0 where
   pub means : planned t d ≡ resultOf (Call.Rmdir bytes) t

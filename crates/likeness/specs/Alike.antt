@@ -10,7 +10,7 @@ use lib.Dec.{eqb}
 use Rattle.meaning.specs.Store.{Store, Change, file, channel, prepared, afterAll}
 use Rattle.meaning.specs.Tables.{Tables, storeOf}
 use Rattle.meaning.specs.Sound.{sound}
-use Rattle.meaning.specs.Run.{Call, Prepare, Room, Create, Open, Unlink, Mkdir, Rmdir, Link, Move, Ls, Close, Fstat, Read, Write, Seek, meaning, changesOf, numbers, Outcome, run}
+use Rattle.meaning.specs.Run.{Call, Prepare, Room, Create, Open, Unlink, Mkdir, Rmdir, Link, Move, Ls, Close, Fstat, Read, Write, Seek, meaning, changesOf, accepted, Outcome, run}
 
 -- ---- alike stores
 
@@ -95,7 +95,7 @@ pub record AlikeOutcomes (listed : Listed) (s : Store) (call : Call) (o o′ : O
   pub buffers : ReadsUnlisted listed s call → o .buffer ≡ o′ .buffer
   pub sizes : length (o .buffer) ≡ length (o′ .buffer)
   -- behind the n bytes that a call read
-  pub rests : (c count n : ℕ) → call ≡ Read c count → o .answer ≡ numbers (n ∷ []) → drop n (o .buffer) ≡ drop n (o′ .buffer)
+  pub rests : (c count n : ℕ) → call ≡ Read c count → o .answer ≡ accepted (n ∷ []) → drop n (o .buffer) ≡ drop n (o′ .buffer)
   pub stay : Alike (listedAfter listed call s) (o .tables) (o′ .tables)
 
 -- ---- rows of calls

@@ -17,11 +17,13 @@ use Rattle.meaning.specs.Result.{Result, refused, unless, onChannel, ifFits}
 use Rattle.meaning.specs.ChannelCalls.{close, write}
 use Rattle.meaning.specs.Tables.{Tables, storeOf}
 use Rattle.meaning.specs.Sound.{sound}
-use Rattle.meaning.specs.Run.{Call, Prepare, Open, Close, Write, meaning, resultOf, answerOf, changesOf, Answer, refusal, numbers, run}
+use Rattle.meaning.specs.Run.{Call, Prepare, Open, Close, Write, meaning, resultOf, answerOf, changesOf, Answer, accepted, numberOf, run}
+use Rattle.meaning.specs.Answers.{reported, never-accepted}
+use Rattle.meaning.specs.Refusals.{refusal-alone}
 use Rattle.meaning.specs.Running.{step, zeroed, wrong}
 use Rattle.meaning.specs.Text.{text}
 use Rattle.meaning.specs.declared.Report.{Report}
-use Rattle.meaning.specs.declared.Report.the-variants.{NoSuchCid}
+use Rattle.meaning.specs.declared.Report.the-variants.{Ok, NoSuchCid}
 use Rattle.keeping.specs.Proofs.{sound-kept}
 use Rattle.likeness.specs.Alike.{Listed, Alike, AlikeStores, same, listedAfter, left}
 use Rattle.likeness.specs.Leaving.{unless-either}
@@ -78,11 +80,11 @@ module _ (s : Store) (c : ℕ) (bytes : List ℕ) where
 
   -- an accepted call leaves the file as written
   abbrev Writes : Result → Type 0
-  Writes r = (ns : List ℕ) → answerOf r ≡ numbers ns → afterAll s (changesOf r) .file f .bytes ≡ new
+  Writes r = (n : ℕ) → answerOf 1 r ≡ accepted (n ∷ []) → afterAll s (changesOf r) .file f .bytes ≡ new
 
   refuses : (why : Report) → Writes (refused why)
   unfolding answerOf
-  refuses why ns e = cc
+  refuses why n e = absurd (never-accepted 1 n [] why (sym e))
 
   unless-writes : (t : Bool) (why : Report) (r : Result) → Writes r → Writes (unless t why r)
   unless-writes t why r h = unless-either Writes t why r (refuses why) h
@@ -90,18 +92,18 @@ module _ (s : Store) (c : ℕ) (bytes : List ℕ) where
   write-writes : Writes (write c bytes s)
   unfolding write onChannel ifFits changesOf afterAll after
   write-writes =
-      unless-writes _ _ _ (unless-writes _ _ _ (unless-writes _ _ _ (unless-writes _ _ _ (λ ns e. rw (eq-eqb f f refl)))))
+      unless-writes _ _ _ (unless-writes _ _ _ (unless-writes _ _ _ (unless-writes _ _ _ (λ n e. rw (eq-eqb f f refl)))))
 
 -- ---- closing a channel
 
 module _ (s : Store) (c : ℕ) where
-  open-close : isOpen s c ≡ true → answerOf (close c s) ≡ numbers []
+  open-close : isOpen s c ≡ true → answerOf 0 (close c s) ≡ reported Ok
   unfolding close onChannel unless answerOf
   open-close is = rw is
 
-  closed-close : isOpen s c ≡ false → answerOf (close c s) ≡ refusal NoSuchCid
+  closed-close : isOpen s c ≡ false → answerOf 0 (close c s) ≡ reported NoSuchCid
   unfolding close onChannel unless answerOf
-  closed-close isnt = rw isnt
+  closed-close isnt = rw isnt (refusal-alone NoSuchCid)
 
   freed : isOpen s c ≡ true → left (Close c) s .channel c .file ≡ 0
   unfolding meaning close onChannel unless changesOf afterAll after letGo
@@ -133,30 +135,31 @@ only-the-store t t′ row e e′ s =
     (record { sound-here = e; sound-there = e′; stores = equal-stores (λ f. false) (λ f. refl) (storeOf t) (storeOf t′) s })
 
 -- what a gap reads as: zeros, whatever any block held before
-pub gap-reads-zero : (t : Tables) (c : ℕ) (bytes ns buffer : List ℕ) (k : ℕ) → sound t ≡ true → answerOf (resultOf (Write c bytes) t) ≡ numbers ns
+pub gap-reads-zero : (t : Tables) (c : ℕ) (bytes buffer : List ℕ) (n k : ℕ) → sound t ≡ true → answerOf 1 (resultOf (Write c bytes) t) ≡ accepted (n ∷ [])
     → length (storeOf t .file (storeOf t .channel c .file) .bytes) ≤ k → k < storeOf t .channel c .posn
     → getD (storeOf (run (Write c bytes) t buffer .tables) .file (storeOf t .channel c .file) .bytes) k 0 ≡ 0
 unfolding meaning
-gap-reads-zero t c bytes ns buffer k e accepted past before =
-    rw (run-store (Write c bytes) t buffer e, write-writes (storeOf t) c bytes ns (rw (heard (Write c bytes) t e) at accepted))
+gap-reads-zero t c bytes buffer n k e told-so past before =
+    rw (run-store (Write c bytes) t buffer e, write-writes (storeOf t) c bytes n (rw (heard (Write c bytes) t e) at told-so))
     (gap-zero (storeOf t .file (storeOf t .channel c .file) .bytes) bytes (storeOf t .channel c .posn) k past before)
 
 -- the same call again has another answer: no constant keeps the promise
 pub close-twice : (t : Tables) (c : ℕ) (buffer : List ℕ) → sound t ≡ true → isOpen (storeOf t) c ≡ true
-    → (answerOf (resultOf (Close c) t) ≡ numbers []) × (answerOf (resultOf (Close c) (run (Close c) t buffer .tables)) ≡ refusal NoSuchCid)
+    → (answerOf 0 (resultOf (Close c) t) ≡ reported Ok) × (answerOf 0 (resultOf (Close c) (run (Close c) t buffer .tables)) ≡ reported NoSuchCid)
 unfolding meaning
 close-twice t c buffer e is =
     let u = run (Close c) t buffer .tables in
     let none : storeOf u .channel c .file ≡ 0 = rw (run-store (Close c) t buffer e) (freed (storeOf t) c is) in (
-      ap answerOf (heard (Close c) t e) ∙ open-close (storeOf t) c is,
-      ap answerOf (heard (Close c) u (sound-kept (Close c) t buffer e)) ∙ closed-close (storeOf u) c (not-open (storeOf u) c none),
+      ap (answerOf 0) (heard (Close c) t e) ∙ open-close (storeOf t) c is,
+      ap (answerOf 0) (heard (Close c) u (sound-kept (Close c) t buffer e)) ∙ closed-close (storeOf u) c (not-open (storeOf u) c none),
     )
 
 -- and so does no program that leaves the tables as they are
 pub tables-change : (t : Tables) (c : ℕ) (buffer : List ℕ) → sound t ≡ true → isOpen (storeOf t) c ≡ true → run (Close c) t buffer .tables ≢ t
+unfolding numberOf
 tables-change t c buffer e is unchanged =
     let (first, again) = close-twice t c buffer e is in
-    let z : _≡_ {A = ℕ} 0 1 = cc (ap (λ (u : Tables). answerOf (resultOf (Close c) u)) unchanged) in omega arith
+    let z : _≡_ {A = ℕ} 0 3 = cc (ap (λ (u : Tables). answerOf 0 (resultOf (Close c) u)) unchanged) in omega arith
 
 -- there is such a store
 a-channel-closed-twice : wrong (zeroed 1 1 1) (

@@ -1,6 +1,6 @@
 -- What leaves the list: all that prepare frees, and the file that create opens.
 use Prim.Native.Nat.{ℕ}
-use mathlib.Core.Path.{_≡_, refl}
+use mathlib.Core.Path.{_≡_, refl, sym}
 use mathlib.Core.List.{List, [], _∷_}
 use mathlib.Core.Option.{Option, none, some}
 use mathlib.Core.Bool.{Bool, true, false, not, _&&_}
@@ -12,7 +12,8 @@ use Rattle.meaning.specs.Name.{syllables}
 use Rattle.meaning.specs.Store.{Store, File, file, channel, root, directory, noFile, ordinary, channelTo, after, afterAll, freeFile, freeChannel, named}
 use Rattle.meaning.specs.Result.{Result, refused, done, unless, withSyllables, missing, ifFits}
 use Rattle.meaning.specs.NameCalls.{create, parent, naming, ifNamingFits}
-use Rattle.meaning.specs.Run.{Prepare, Create, meaning, answerOf, changesOf, numbers}
+use Rattle.meaning.specs.Run.{Prepare, Create, meaning, answerOf, changesOf, accepted}
+use Rattle.meaning.specs.Answers.{never-accepted}
 use Rattle.meaning.specs.declared.Report.{Report}
 use Rattle.meaning.specs.declared.Report.the-variants.{BadName}
 use Rattle.likeness.specs.Alike.{Listed, rewrites, isCreate, empties, left, listedAfter}
@@ -36,12 +37,12 @@ unless-either P false why r refusal h = h
 
 -- the file that the answered channel holds was written anew
 abbrev Opens : Store → Result → Type 0
-Opens s r = (c : ℕ) → answerOf r ≡ numbers (c ∷ []) → rewrites (changesOf r) (afterAll s (changesOf r) .channel c .file) ≡ true
+Opens s r = (c : ℕ) → answerOf 1 r ≡ accepted (c ∷ []) → rewrites (changesOf r) (afterAll s (changesOf r) .channel c .file) ≡ true
 
 module _ (s : Store) where
   refuses : (why : Report) → Opens s (refused why)
   unfolding answerOf
-  refuses why c e = cc
+  refuses why c e = absurd (never-accepted 1 c [] why (sym e))
 
   unless-opens : (t : Bool) (why : Report) (r : Result) → Opens s r → Opens s (unless t why r)
   unless-opens t why r h = unless-either (Opens s) t why r (refuses why) h
@@ -79,13 +80,13 @@ module _ (s : Store) where
       (unless-opens _ _ _ (unless-opens _ _ _ (unless-opens _ _ _ (opens-new (parent s name) (naming s name (freeFile s)) (freeFile s) (freeChannel s)))))
       (opens-old (named s name) (freeChannel s)))))
 
-created-emptied : (s : Store) (bytes : List ℕ) (c : ℕ) → answerOf (meaning (Create bytes) s) ≡ numbers (c ∷ [])
+created-emptied : (s : Store) (bytes : List ℕ) (c : ℕ) → answerOf 1 (meaning (Create bytes) s) ≡ accepted (c ∷ [])
     → empties (Create bytes) s (left (Create bytes) s .channel c .file) ≡ true
 unfolding empties isCreate meaning
 created-emptied s bytes c e = create-opens s bytes c e
 
 -- the file that create opens a channel to is not listed afterwards
-pub created-unlisted : (listed : Listed) (s : Store) (bytes : List ℕ) (c : ℕ) → answerOf (meaning (Create bytes) s) ≡ numbers (c ∷ [])
+pub created-unlisted : (listed : Listed) (s : Store) (bytes : List ℕ) (c : ℕ) → answerOf 1 (meaning (Create bytes) s) ≡ accepted (c ∷ [])
     → listedAfter listed (Create bytes) s (left (Create bytes) s .channel c .file) ≡ false
 unfolding listedAfter
 created-unlisted listed s bytes c e =

@@ -1,6 +1,6 @@
 -- Demand 3: alike stores give the same answers to any row of the same calls, save bytes read from listed files, and stay alike.
 use Prim.Native.Nat.{ℕ, _+_}
-use mathlib.Core.Path.{_≡_, ap, sym, _∙_}
+use mathlib.Core.Path.{_≡_, refl, ap, sym, _∙_}
 use mathlib.Core.List.{List, [], _∷_}
 use mathlib.Core.Bool.{Bool, true, false, not}
 use lib.ListN.{length, drop}
@@ -12,11 +12,12 @@ use Rattle.meaning.specs.Tables.{Tables, storeOf}
 use Rattle.meaning.specs.Result.{Result, done, unless, onChannel}
 use Rattle.meaning.specs.ChannelCalls.{read}
 use Rattle.meaning.specs.Sound.{sound}
-use Rattle.meaning.specs.Run.{Call, Read, meaning, resultOf, answerOf, bytesOf, numbers, Outcome, run, Promise}
+use Rattle.meaning.specs.Run.{Call, Read, meaning, resultOf, answerOf, bytesOf, width, accepted, Outcome, run, Promise}
+use Rattle.meaning.specs.Answers.{never-accepted}
 use Rattle.meaning.specs.Determined.{run-outcome}
 use Rattle.meaning.specs.declared.Report.the-variants.{NoSuchCid}
 use Rattle.keeping.specs.Proofs.{sound-accepted, store-after, sound-kept}
-use Rattle.likeness.specs.Alike.{Listed, Alike, SameCall, listedAfter, left, AlikeOutcomes, Demanded}
+use Rattle.likeness.specs.Alike.{Listed, Alike, SameCall, same, other-bytes, listedAfter, left, AlikeOutcomes, Demanded}
 use Rattle.likeness.specs.Results.{Given, same-result}
 use Rattle.likeness.specs.Stores.{same-stores, alike-left}
 
@@ -38,7 +39,7 @@ module _ (buffer out out′ : List ℕ) (size : length out ≡ length out′) wh
       ∙ sym (drop-at out′ (drop (length out′) buffer) n (sym size ∙ e))
 
 -- a call that reads answers how many bytes
-read-count : (c count n : ℕ) (s : Store) → answerOf (read c count s) ≡ numbers (n ∷ []) → length (bytesOf (read c count s)) ≡ n
+read-count : (c count n : ℕ) (s : Store) → answerOf 1 (read c count s) ≡ accepted (n ∷ []) → length (bytesOf (read c count s)) ≡ n
 unfolding read onChannel unless answerOf bytesOf
 read-count c count n s = go (not (isOpen s c))
   where
@@ -48,11 +49,16 @@ read-count c count n s = go (not (isOpen s c))
     r : Result
     r = done (length out ∷ []) out (channel c (channelTo (s .channel c .file) (s .channel c .posn + length out)) ∷ [])
 
-    go : (t : Bool) → answerOf (unless t NoSuchCid r) ≡ numbers (n ∷ []) → length (bytesOf (unless t NoSuchCid r)) ≡ n
-    go true e = cc
+    go : (t : Bool) → answerOf 1 (unless t NoSuchCid r) ≡ accepted (n ∷ []) → length (bytesOf (unless t NoSuchCid r)) ≡ n
+    go true e = absurd (never-accepted 1 n [] NoSuchCid (sym e))
     go false e = cc
 
-counted : (call : Call) (s : Store) (c count n : ℕ) → call ≡ Read c count → answerOf (meaning call s) ≡ numbers (n ∷ []) → length (bytesOf (meaning call s)) ≡ n
+-- calls that are the same answer as many numbers
+same-width : (listed : Listed) (s : Store) {call call′ : Call} → SameCall listed s call call′ → width call ≡ width call′
+same-width listed s (same call) = refl
+same-width listed s (other-bytes c bytes bytes′ l e) = refl
+
+counted : (call : Call) (s : Store) (c count n : ℕ) → call ≡ Read c count → answerOf (width call) (meaning call s) ≡ accepted (n ∷ []) → length (bytesOf (meaning call s)) ≡ n
 unfolding meaning
 counted call s c count n e h = rw e (read-count c count n s (rw e at h))
 
@@ -82,7 +88,7 @@ module _ (listed : Listed) (t t′ : Tables) (a : Alike listed t t′) where
         let out′ = bytesOf (meaning call′ (storeOf t′)) in
         rw (heard call t (a .sound-here), heard call′ t′ (a .sound-there))
         (record {
-          answers = given .answers;
+          answers = rw (same-width listed (storeOf t) c) (given .answers (width call′));
           buffers = λ h. ap (over buffer) (given .bytes h);
           sizes = same-length buffer out out′ (given .sizes);
           rests = λ d count n e h. same-rest buffer out out′ (given .sizes) n (counted call (storeOf t) d count n e h);

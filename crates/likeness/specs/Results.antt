@@ -11,7 +11,7 @@ use Rattle.meaning.specs.FileLaws.{length-read, length-write}
 use Rattle.meaning.specs.Store.{Store, Change, file, channel, channelTo, ordinary, afterAll}
 use Rattle.meaning.specs.Result.{Result, refused, done, unless, onChannel, ifFits}
 use Rattle.meaning.specs.ChannelCalls.{read, write}
-use Rattle.meaning.specs.Run.{Call, Prepare, Room, Create, Open, Unlink, Mkdir, Rmdir, Link, Move, Ls, Close, Fstat, Read, Write, Seek, meaning, numbers, answerOf, bytesOf, changesOf}
+use Rattle.meaning.specs.Run.{Call, Prepare, Room, Create, Open, Unlink, Mkdir, Rmdir, Link, Move, Ls, Close, Fstat, Read, Write, Seek, meaning, accepted, answerOf, bytesOf, changesOf}
 use Rattle.meaning.specs.declared.Report.{Report}
 use Rattle.likeness.specs.Alike.{Listed, SameCall, same, other-bytes, isCreate, ReadsUnlisted}
 use Rattle.likeness.specs.Same.{SameFile, SameStore, after-file, after-same, after-all}
@@ -20,7 +20,7 @@ use Rattle.likeness.specs.Calls.{same-close, same-seek, same-fstat, same
 
 -- the bytes are equal where `plain` holds, the changes where `fixed` does
 pub record SameResult (listed : Listed) (s s′ : Store) (plain fixed : Type 0) (r r′ : Result) : Type 0 where
-  pub answers : answerOf r ≡ answerOf r′
+  pub answers : (n : ℕ) → answerOf n r ≡ answerOf n r′
   pub bytes : plain → bytesOf r ≡ bytesOf r′
   pub sizes : length (bytesOf r) ≡ length (bytesOf r′)
   pub changes : fixed → changesOf r ≡ changesOf r′
@@ -30,7 +30,7 @@ module _ (listed : Listed) (s s′ : Store) (a : SameStore listed s s′) (plain
   pub equal-result : (r r′ : Result) → r ≡ r′ → SameResult listed s s′ plain fixed r r′
   equal-result r r′ e =
       record {
-        answers = ap answerOf e;
+        answers = λ n. ap (answerOf n) e;
         bytes = λ _. ap bytesOf e;
         sizes = ap (λ r. length (bytesOf r)) e;
         changes = λ _. ap changesOf e;
@@ -47,7 +47,7 @@ module _ (listed : Listed) (s s′ : Store) (a : SameStore listed s s′) (plain
       → (fixed → changes ≡ changes′) → SameStore listed (afterAll s changes) (afterAll s′ changes′) → SameResult listed s s′ plain fixed (done ns bytes changes) (done ns′ bytes′ changes′)
   unfolding answerOf bytesOf changesOf
   done-result ns ns′ bytes bytes′ changes changes′ e f g h st =
-      record { answers = ap numbers e; bytes = f; sizes = g; changes = h; stores = st }
+      record { answers = λ n. ap accepted e; bytes = f; sizes = g; changes = h; stores = st }
 
 module _ (listed : Listed) (s s′ : Store) (a : SameStore listed s s′) (c : ℕ) where
   -- the file that the channel holds

@@ -5,7 +5,6 @@ pub mod LinkLaws
 pub mod Act
 pub mod ActLaws
 pub mod ThenGo
-pub mod Told
 pub mod MoveLaws
 pub mod LastName
 pub mod Move

@@ -57,7 +57,7 @@ refusal-report : (n : ℕ) (a b : Report) → refusal n a ≡ refusal n b → a 
 unfolding refusal
 refusal-report n a b e = same-report a b (cc)
 
-never-accepted : (n k : ℕ) (ns : List ℕ) (why : Report) → accepted (k ∷ ns) ≡ refusal n why → ⊥
+pub never-accepted : (n k : ℕ) (ns : List ℕ) (why : Report) → accepted (k ∷ ns) ≡ refusal n why → ⊥
 unfolding refusal numberOf
 never-accepted n k ns why e =
     let ok : numberOf why ≡ 0 = cc in

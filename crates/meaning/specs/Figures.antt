@@ -10,7 +10,7 @@ use Rattle.meaning.specs.File.{readFILE, writeFILE, needed}
 use Rattle.meaning.specs.Name.{syllables, same, entry, written}
 use Rattle.meaning.specs.Store.{Store, afterAll, noFile, directory, ordinary, channelTo, noChannel}
 use Rattle.meaning.specs.Result.{Result}
-use Rattle.meaning.specs.Run.{Call, Open, Seek, Write, meaning, answerOf, changesOf}
+use Rattle.meaning.specs.Run.{Call, Open, Seek, Write, meaning, width, answerOf, changesOf}
 use Rattle.meaning.specs.Running.{wrongFrom}
 use Rattle.meaning.specs.Text.{text}
 
@@ -55,7 +55,7 @@ holding bytes posn =
 
 -- what a call says on such a store
 saysOf : Call → Store → List ℕ
-saysOf call s = answerOf call (meaning call s)
+saysOf call s = answerOf (width call) (meaning call s)
 
 -- the length of file 2 after a call
 lengthAfter : Call → Store → ℕ

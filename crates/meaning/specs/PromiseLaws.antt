@@ -13,11 +13,11 @@ use Rattle.meaning.specs.declared.Report.{Report}
 
 module _ (call : Call) (t : Tables) (buffer : List ℕ) where
   -- a result that a call gives, made in the tables and told
-  pub kept : (r : Result) → r ≡ resultOf call t → (o : Outcome) → o .answer ≡ answerOf call r → o .buffer ≡ over buffer (bytesOf r) → o .tables ≡ putAll t (changesOf r)
+  pub kept : (r : Result) → r ≡ resultOf call t → (o : Outcome) → o .answer ≡ answerOf (width call) r → o .buffer ≡ over buffer (bytesOf r) → o .tables ≡ putAll t (changesOf r)
       → Promise call t buffer o
   kept r e o answers fills leaves =
       record {
-        answers = answers ∙ ap (answerOf call) e;
+        answers = answers ∙ ap (answerOf (width call)) e;
         fills = fills ∙ ap (λ x. over buffer (bytesOf x)) e;
         leaves = leaves ∙ ap (λ x. putAll t (changesOf x)) e;
       }

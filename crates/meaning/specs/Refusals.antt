@@ -17,7 +17,7 @@ use Rattle.meaning.specs.Tables.{Tables, storeOf}
 use Rattle.meaning.specs.Run.{Call, Prepare, Room, Create, Open, Unlink, Mkdir, Rmdir, Link, Move, Ls, Close, Fstat, Read, Write, Seek, meaning, resultOf, width, refusal, answerOf, numberOf}
 use Rattle.meaning.specs.Answers.{reported}
 use Rattle.meaning.specs.declared.Report.{Report}
-use Rattle.meaning.specs.declared.Report.the-variants.{NotAStore, BadName, NoSuchCid, NoSuchName, NoFreeCids, IsDirectory, NotDirectory, NoFreeFids, NoRoom, TooBig, BadSeek, NameInUse, NotEmpty, OutShort, InUse}
+use Rattle.meaning.specs.declared.Report.the-variants.{NotAStore, BadName, NoFreeFids}
 
 -- ---- rows of refusals
 
@@ -68,11 +68,11 @@ on-name (some name) r rest = rest name
 
 on-channel : (s : Store) (c : ℕ) (r : Result) → Refuses r → Refuses (onChannel s c r)
 unfolding onChannel numberOf IsNo
-on-channel s c r rest = or-else _ NoSuchCid r refl rest
+on-channel s c r rest = or-else _ _ r refl rest
 
 if-fits : (s : Store) (old new : ℕ) (r : Result) → Refuses r → Refuses (ifFits s old new r)
 unfolding ifFits numberOf IsNo
-if-fits s old new r rest = or-else _ TooBig _ refl (or-else _ NoRoom r refl rest)
+if-fits s old new r rest = or-else _ _ _ refl (or-else _ _ r refl rest)
 
 with-changes : (changes : List Change) (r : Result) → Refuses r → Refuses (withChanges changes r)
 unfolding withChanges
@@ -89,10 +89,10 @@ unfolding link ifNamingFits numberOf IsNo
 link-refuses old new s =
     on-name (syllables old) _ λ from.
     on-name (syllables new) _ λ to.
-    or-else _ NoSuchName _ refl
-    (or-else _ IsDirectory _ refl
-    (or-else _ NoSuchName _ refl
-    (or-else _ IsDirectory _ refl
+    or-else _ _ _ refl
+    (or-else _ _ _ refl
+    (or-else _ _ _ refl
+    (or-else _ _ _ refl
     (if-fits s _ _ _
     (never _ _ _)))))
 
@@ -100,8 +100,8 @@ unlink-refuses : (bytes : List ℕ) (s : Store) → Refuses (unlink bytes s)
 unfolding unlink numberOf IsNo
 unlink-refuses bytes s =
     on-name (syllables bytes) _ λ name.
-    or-else _ NoSuchName _ refl
-    (or-else _ IsDirectory _ refl
+    or-else _ _ _ refl
+    (or-else _ _ _ refl
     (never _ _ _))
 
 call-refuses : (call : Call) (s : Store) → Refuses (meaning call s)
@@ -110,45 +110,45 @@ call-refuses Prepare s = never _ _ _
 call-refuses Room s = never _ _ _
 call-refuses (Create name) s =
     on-name (syllables name) _ λ name.
-    or-else _ NoSuchName _ refl
-    (or-else _ IsDirectory _ refl
-    (or-else _ NoFreeCids _ refl
+    or-else _ _ _ refl
+    (or-else _ _ _ refl
+    (or-else _ _ _ refl
     (either (missing s name)
     (unless (allUsed s) NoFreeFids (ifNamingFits s name (naming s name (freeFile s)) (done _ _ _)))
     (done _ _ _)
-    (or-else (allUsed s) NoFreeFids _ refl (if-fits s _ _ _ (never _ _ _)))
+    (or-else (allUsed s) _ _ refl (if-fits s _ _ _ (never _ _ _)))
     (never _ _ _))))
 call-refuses (Open name) s =
     on-name (syllables name) _ λ name.
-    or-else _ NoSuchName _ refl (or-else _ NoFreeCids _ refl (never _ _ _))
+    or-else _ _ _ refl (or-else _ _ _ refl (never _ _ _))
 call-refuses (Unlink name) s = unlink-refuses name s
 call-refuses (Mkdir name) s =
     on-name (syllables name) _ λ name.
-    or-else _ BadName _ refl
-    (or-else _ NoSuchName _ refl
-    (or-else _ NameInUse _ refl
-    (or-else _ NoFreeFids _ refl (if-fits s _ _ _ (never _ _ _)))))
+    or-else _ _ _ refl
+    (or-else _ _ _ refl
+    (or-else _ _ _ refl
+    (or-else _ _ _ refl (if-fits s _ _ _ (never _ _ _)))))
 call-refuses (Rmdir name) s =
     on-name (syllables name) _ λ name.
-    or-else _ NoSuchName _ refl
-    (or-else _ NotDirectory _ refl
-    (or-else _ InUse _ refl (or-else _ NotEmpty _ refl (never _ _ _))))
+    or-else _ _ _ refl
+    (or-else _ _ _ refl
+    (or-else _ _ _ refl (or-else _ _ _ refl (never _ _ _))))
 call-refuses (Link old new) s = link-refuses old new s
 call-refuses (Move old new) s = and-then s (link old new s) (unlink old) (link-refuses old new s) (unlink-refuses old)
 call-refuses (Ls name size) s =
     on-name (syllables name) _ λ name.
-    or-else _ NoSuchName _ refl
-    (or-else _ NotDirectory _ refl (or-else _ OutShort _ refl (never _ _ _)))
+    or-else _ _ _ refl
+    (or-else _ _ _ refl (or-else _ _ _ refl (never _ _ _)))
 call-refuses (Close c) s = on-channel s c _ (never _ _ _)
 call-refuses (Fstat c) s = on-channel s c _ (never _ _ _)
 call-refuses (Read c count) s = on-channel s c _ (never _ _ _)
-call-refuses (Write c bytes) s = on-channel s c _ (or-else _ IsDirectory _ refl (if-fits s _ _ _ (never _ _ _)))
-call-refuses (Seek c mode n) s = on-channel s c _ (or-else _ BadSeek _ refl (never _ _ _))
+call-refuses (Write c bytes) s = on-channel s c _ (or-else _ _ _ refl (if-fits s _ _ _ (never _ _ _)))
+call-refuses (Seek c mode n) s = on-channel s c _ (or-else _ _ _ refl (never _ _ _))
 
 -- the theorem: where a call is refused, its answer is the report's number, which is not 0, and zeros
 pub refused-row : (call : Call) (t : Tables) (why : Report) → resultOf call t ≡ refused why
-    → (eqb (numberOf why) 0 ≡ false) × (answerOf call (resultOf call t) ≡ numberOf why ∷ replicate (width call) 0)
+    → (eqb (numberOf why) 0 ≡ false) × (answerOf (width call) (resultOf call t) ≡ numberOf why ∷ replicate (width call) 0)
 unfolding answerOf resultOf Refuses IsNo numberOf
 refused-row call t why e =
     let h = or-else _ NotAStore _ refl (call-refuses call (storeOf t)) why e in
-    (h, ap (answerOf call) e ∙ refusal-row (width call) why h)
+    (h, ap (answerOf (width call)) e ∙ refusal-row (width call) why h)

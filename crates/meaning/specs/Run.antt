@@ -122,9 +122,10 @@ accepted ns = numberOf Ok ∷ ns
 unfoldable pub refusal : ℕ → Report → Answer
 refusal n why = numberOf why ∷ pick (eqb (numberOf why) 0) [] (replicate {A = ℕ} n 0)
 
-unfoldable pub answerOf : Call → Result → Answer
-answerOf call (refused why) = refusal (width call) why
-answerOf call (done ns bytes changes) = accepted ns
+-- the answer of a call with n numbers
+unfoldable pub answerOf : ℕ → Result → Answer
+answerOf n (refused why) = refusal n why
+answerOf n (done ns bytes changes) = accepted ns
 
 -- the bytes for the lent buffer
 unfoldable pub bytesOf : Result → List ℕ
@@ -147,11 +148,11 @@ pub record Outcome : Type 0 where
 unfoldable pub run : Call → Tables → List ℕ → Outcome
 run call t buffer =
     let r = resultOf call t in
-    record { answer = answerOf call r; buffer = over buffer (bytesOf r); tables = putAll t (changesOf r) }
+    record { answer = answerOf (width call) r; buffer = over buffer (bytesOf r); tables = putAll t (changesOf r) }
 
 -- the promise of every call: the answer, the lent buffer and every byte of the tables
 pub record Promise (call : Call) (t : Tables) (buffer : List ℕ) (o : Outcome) : Type 0 where
-  pub answers : o .answer ≡ answerOf call (resultOf call t)
+  pub answers : o .answer ≡ answerOf (width call) (resultOf call t)
   pub fills : o .buffer ≡ over buffer (bytesOf (resultOf call t))
   pub leaves : o .tables ≡ putAll t (changesOf (resultOf call t))
 

@@ -14,7 +14,7 @@ use Rattle.meaning.specs.NameCalls
 use Rattle.meaning.specs.Tables
 use Rattle.meaning.specs.Sound
 use Rattle.meaning.specs.Run
-use Rattle.meaning.specs.Run.{Call, resultOf, answerOf, bytesOf, changesOf}
+use Rattle.meaning.specs.Run.{Call, resultOf, width, answerOf, bytesOf, changesOf}
 use Rattle.meaning.specs.Name.{same}
 use Rattle.meaning.specs.Tables.{Tables, putAll}
 use Rattle.meaning.specs.Text.{text}
@@ -44,7 +44,7 @@ wrongFrom n t [] = []
 wrongFrom n t (x ∷ xs) =
     let r = resultOf (x .call) t in
     let rest = wrongFrom (suc n) (putAll t (changesOf r)) xs in
-    pick (same (answerOf (x .call) r ++ bytesOf r) (x .says)) rest (n ∷ rest)
+    pick (same (answerOf (width (x .call)) r ++ bytesOf r) (x .says)) rest (n ∷ rest)
 
 unfoldable pub wrong : Tables → List Step → List ℕ
 unfolding wrongFrom

@@ -13,8 +13,6 @@ use Rattle.meaning.specs.Tables.{Tables, tables, storeOf}
 use Rattle.meaning.specs.Sound.{sound}
 use Rattle.meaning.specs.Result.{Result, refused, unless, withSyllables, missing}
 use Rattle.meaning.specs.NameCalls.{parent, recordFor}
-use Rattle.meaning.specs.Run.{refusal, numbers, numberOf}
-use Rattle.meaning.specs.Answers.{reported}
 use Rattle.meaning.specs.declared.Report.{Report}
 use Rattle.meaning.specs.declared.Report.the-variants.{NotAStore, BadName}
 use Rattle.lookup.specs.Filed.{filed, bytes-seen, directory-seen}
@@ -51,13 +49,3 @@ module _ (b br fr cr : List ℕ) where
         located = l;
         is-directory = sym (directory-seen b br fr cr (x .parent .0)) ∙ is;
       }
-
--- a name that is refused before it is located is refused by a report of its own
-pub refusal-told : (t : Tables) (bytes : List ℕ) (h : Judged) → OnName t bytes h → (why : Report) → h ≡ Refused why → reported why ≡ refusal why
-unfolding onNameOf unless withSyllables reported numberOf
-refusal-told t bytes h on why e = go (not (sound t)) (syllables bytes) (refuses t bytes h on why e (λ name. refused BadName))
-  where
-    go : (unsound : Bool) (read : Option (List (List ℕ))) → refused why ≡ unless unsound NotAStore (withSyllables read (λ name. refused BadName)) → reported why ≡ refusal why
-    go true read e = let so : why ≡ NotAStore = cc in rw so
-    go false none e = let so : why ≡ BadName = cc in rw so
-    go false (some name) e = let so : why ≡ BadName = cc in rw so

@@ -1,17 +1,15 @@
 -- Laws of what is printed, as the code meets them: numbers and hex one behind another, and a line's end.
-use Prim.Native.Nat.{ℕ, _+_, _*_, _≤_, _<_}
+use Prim.Native.Nat.{ℕ, zero, suc, _+_, _*_, _≤_, _<_}
 use mathlib.Core.Path.{_≡_, refl, _∙_}
-use mathlib.Core.Logic.{⊎-elim}
 use mathlib.Core.List.{List, [], _∷_, _++_, append-nil}
-use mathlib.Core.Bool.{true, false}
+use mathlib.Core.Bool.{Bool, true, false}
 use native.Mathlib.Omega.{arith}
 use native.Mathlib.Numerals.{add-one}
-use lib.ListN.{length, take, getD}
+use lib.ListN.{length, take, getD, replicate}
 use lib.Seq.{take-suc, take-all}
 use lib.Dec.{eqb}
-use borrow.Author.Tests.{eqb-true}
-use Rattle.records.specs.Tests.{tested}
-use Rattle.meaning.specs.Run.{Answer, refusal, numbers, numberOf}
+use Rattle.records.specs.Rows.{pick}
+use Rattle.meaning.specs.Run.{Answer, accepted, refusal, numberOf}
 use Rattle.meaning.specs.Answers.{reported}
 use Rattle.meaning.specs.declared.Report.{Report}
 use Rattle.text.specs.Line.{space}
@@ -96,12 +94,18 @@ a-word (b ∷ bytes) out between after at middle next d p q = lays-both (space �
 
 -- a report alone
 pub printed-report : (r : Report) → printed (reported r) [] ≡ decimal (numberOf r)
-unfolding printed reported spaced hexWord
-printed-report r =
-    ⊎-elim
-    (λ (e : eqb (numberOf r) 0 ≡ true). rw (e, eqb-true (numberOf r) 0 e) (append-nil (decimal 0 ++ []) ∙ append-nil (decimal 0)))
-    (λ (e : eqb (numberOf r) 0 ≡ false). rw e)
-    (tested (eqb (numberOf r) 0))
+unfolding printed
+printed-report r = refl
+
+-- a refusal prints its report alone
+printed-refusal : (n : ℕ) (why : Report) (bytes : List ℕ) → printed (refusal n why) bytes ≡ decimal (numberOf why)
+unfolding printed refusal
+printed-refusal n why bytes = go n (eqb (numberOf why) 0) refl
+  where
+    go : (n : ℕ) (t : Bool) → eqb (numberOf why) 0 ≡ t → printed (numberOf why ∷ pick t [] (replicate {A = ℕ} n 0)) bytes ≡ decimal (numberOf why)
+    go n true e = refl
+    go zero false e = refl
+    go (suc n) false e = rw e
 
 -- the same answer under another name
 pub line-as : (a b : Answer) (bytes out after : List ℕ) (at next : ℕ) → a ≡ b → Lays out at (printed b bytes ++ newline ∷ []) after next
@@ -109,27 +113,26 @@ pub line-as : (a b : Answer) (bytes out after : List ℕ) (at next : ℕ) → a 
 line-as a b bytes out after at next e l = rw e l
 
 -- a refusal
-pub refusal-line : (a : Answer) (why : Report) (bytes out after : List ℕ) (at next : ℕ) → a ≡ refusal why
+pub refusal-line : (a : Answer) (n : ℕ) (why : Report) (bytes out after : List ℕ) (at next : ℕ) → a ≡ refusal n why
     → Lays out at (decimal (numberOf why) ++ newline ∷ []) after next → Lays out at (printed a bytes ++ newline ∷ []) after next
-unfolding printed
-refusal-line a why bytes out after at next e l = rw e l
+refusal-line a n why bytes out after at next e l = rw (e, printed-refusal n why bytes) l
 
 -- numbers, then hex
-pub numbers-line : (a : Answer) (ns bytes out one two after : List ℕ) (at middle end next : ℕ) → a ≡ numbers ns
-    → Lays out at (decimal 0 ++ spaced ns) one middle → Lays one middle (hexWord bytes) two end → Lays two end (newline ∷ []) after next
+pub numbers-line : (a : Answer) (n : ℕ) (ns bytes out one two after : List ℕ) (at middle end next : ℕ) → a ≡ accepted (n ∷ ns)
+    → Lays out at (decimal 0 ++ spaced (n ∷ ns)) one middle → Lays one middle (hexWord bytes) two end → Lays two end (newline ∷ []) after next
     → Lays out at (printed a bytes ++ newline ∷ []) after next
-unfolding printed
-numbers-line a ns bytes out one two after at middle end next e p q r =
+unfolding printed numberOf
+numbers-line a n ns bytes out one two after at middle end next e p q r =
     rw e
-    (lays-both (decimal 0 ++ spaced ns ++ hexWord bytes) (newline ∷ []) out two after at end next
-    (lays-both (decimal 0 ++ spaced ns) (hexWord bytes) out one two at middle end p q) r)
+    (lays-both (decimal 0 ++ spaced (n ∷ ns) ++ hexWord bytes) (newline ∷ []) out two after at end next
+    (lays-both (decimal 0 ++ spaced (n ∷ ns)) (hexWord bytes) out one two at middle end p q) r)
 
 -- numbers alone
-pub numbers-alone : (ns out one after : List ℕ) (at middle next : ℕ) → Lays out at (decimal 0 ++ spaced ns) one middle
-    → Lays one middle (newline ∷ []) after next → Lays out at (printed (numbers ns) [] ++ newline ∷ []) after next
+pub numbers-alone : (n : ℕ) (ns out one after : List ℕ) (at middle next : ℕ) → Lays out at (decimal 0 ++ spaced (n ∷ ns)) one middle
+    → Lays one middle (newline ∷ []) after next → Lays out at (printed (accepted (n ∷ ns)) [] ++ newline ∷ []) after next
 unfolding hexWord
-numbers-alone ns out one after at middle next p r =
-    numbers-line (numbers ns) ns [] out one one after at middle middle next refl p no-hex r
+numbers-alone n ns out one after at middle next p r =
+    numbers-line (accepted (n ∷ ns)) n ns [] out one one after at middle middle next refl p no-hex r
   where
     no-hex : Lays one middle (hexWord []) one middle
     no-hex = lays-none one middle (p .fits)

@@ -3,10 +3,10 @@
 use Prim.Native.Nat.{ℕ, zero, suc, _+_, _/_, _%_}
 use mathlib.Core.List.{List, [], _∷_, _++_}
 use mathlib.Core.Option.{Option, none, some}
-use lib.Dec.{ltb}
+use lib.Dec.{ltb, eqb}
 use Rattle.records.specs.Rows.{pick}
 use Rattle.meaning.specs.Tables.{Tables}
-use Rattle.meaning.specs.Run.{Call, Answer, refusal, numbers, numberOf, answerOf, bytesOf, changesOf, resultOf}
+use Rattle.meaning.specs.Run.{Call, Answer, width, answerOf, bytesOf, changesOf, resultOf}
 use Rattle.meaning.specs.Tables.{putAll}
 use Rattle.text.specs.Line.{asked, space}
 
@@ -36,9 +36,11 @@ unfoldable pub hexWord : List ℕ → List ℕ
 hexWord [] = []
 hexWord (b ∷ bytes) = space ∷ hex (b ∷ bytes)
 
+-- a report alone; or the report, the numbers and the bytes of an accepted call, of which a refusal prints its report
 unfoldable pub printed : Answer → List ℕ → List ℕ
-printed (refusal why) bytes = decimal (numberOf why)
-printed (numbers ns) bytes = decimal 0 ++ spaced ns ++ hexWord bytes
+printed [] bytes = []
+printed (report ∷ []) bytes = decimal report
+printed (report ∷ n ∷ ns) bytes = pick (eqb report 0) (decimal report ++ spaced (n ∷ ns) ++ hexWord bytes) (decimal report)
 
 abbrev pub newline : ℕ
 newline = 10
@@ -58,7 +60,7 @@ unfoldable pub servedAs : Option Call → Tables → Served
 servedAs none t = record { prints = question; tables = t }
 servedAs (some call) t =
     let r = resultOf call t in
-    record { prints = printed (answerOf r) (bytesOf r); tables = putAll t (changesOf r) }
+    record { prints = printed (answerOf (width call) r) (bytesOf r); tables = putAll t (changesOf r) }
 
 unfoldable pub served : List ℕ → Tables → Served
 served line t = servedAs (asked line) t

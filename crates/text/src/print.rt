@@ -10,7 +10,7 @@ ghost use mathlib.Core.Path.{_≡_};
 ghost use mathlib.Core.List.{[], _∷_, _++_};
 ghost use Prim.Native.Nat.{_+_, _*_, _≤_, _<_};
 ghost use lib.ListN.{length};
-ghost use Rattle.meaning.specs.Run.{Answer, numberOf};
+ghost use Rattle.meaning.specs.Run.{accepted, numberOf};
 ghost use Rattle.meaning.specs.Answers.{reported, opened, counted, sought, statOf, spaceOf};
 ghost use Rattle.text.specs.Line.{space};
 ghost use Rattle.text.specs.Print.{decimal, hexDigit, hex, hexWord, spaced, printed, newline, question};
@@ -146,7 +146,7 @@ fn put_one(out: &mut [u8], at: usize, n: u32) -> usize
 // One number, and the line's end.
 fn print_one(out: &mut [u8], at: usize, n: u32) -> usize
     requires { ⌜ at + shortLine ≤ length (now out) ⌝ }
-    ensures { λ r. ⌜ Lays (now (out .entry)) at (printed (Answer.numbers (n ∷ [])) [] ++ newline ∷ []) (now (out .exit)) r ⌝ }
+    ensures { λ r. ⌜ Lays (now (out .entry)) at (printed (accepted (n ∷ [])) [] ++ newline ∷ []) (now (out .exit)) r ⌝ }
 {
     let next = put_one(out, at, n);
     put_byte(out, next, b'\n')
@@ -155,7 +155,7 @@ fn print_one(out: &mut [u8], at: usize, n: u32) -> usize
 // Three numbers, and the line's end.
 fn print_three(out: &mut [u8], at: usize, a: u32, b: u32, c: u32) -> usize
     requires { ⌜ at + shortLine ≤ length (now out) ⌝ }
-    ensures { λ r. ⌜ Lays (now (out .entry)) at (printed (Answer.numbers (a ∷ b ∷ c ∷ [])) [] ++ newline ∷ []) (now (out .exit)) r ⌝ }
+    ensures { λ r. ⌜ Lays (now (out .entry)) at (printed (accepted (a ∷ b ∷ c ∷ [])) [] ++ newline ∷ []) (now (out .exit)) r ⌝ }
 {
     let second = put_one(out, at, a);
     let third = put_number(out, second, b);

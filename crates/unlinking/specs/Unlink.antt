@@ -9,8 +9,7 @@ use Rattle.meaning.specs.Store.{Change, file, noFile}
 use Rattle.meaning.specs.NameCalls.{rewritten}
 use Rattle.meaning.specs.Tables.{Tables, storeOf, fileCount}
 use Rattle.meaning.specs.Result.{Result, refused, done}
-use Rattle.meaning.specs.Run.{Call, resultOf, refusal}
-use Rattle.meaning.specs.Answers.{reported}
+use Rattle.meaning.specs.Run.{Call, resultOf}
 use Rattle.recording.specs.Recording.{Rewritable}
 use Rattle.unlinking.specs.declared.Unlinking.{Unlinking}
 use Rattle.unlinking.specs.declared.Unlinking.the-variants.{Of, No}
@@ -32,7 +31,7 @@ pub record Takes (t : Tables) (d i g : ℕ) : Type 0 where
 
 abbrev pub Inside : Tables → Unlinking → Type 0
 Inside t (Of d i gone) = Takes t (d .0) i (gone .0)
-Inside t (No why) = reported why ≡ refusal why
+Inside t (No why) = Unit {0}
 
 pub record Decided (t : Tables) (bytes : List ℕ) (d : Unlinking) : Type 0 where
   pub means : planned t d ≡ resultOf (Call.Unlink bytes) t

@@ -6,9 +6,9 @@ use borrow.Author.Needs.{needs}
 use Rattle.records.specs.Numbers.{withRecord}
 use Rattle.meaning.specs.Store.{file, channel, noFile, noChannel}
 use Rattle.meaning.specs.Tables.{Tables, tables, put, putAll, channelCount, channelRecord}
-use Rattle.meaning.specs.Run.{Call, Promise, numberOf}
+use Rattle.meaning.specs.Run.{Call, Promise}
 use Rattle.meaning.specs.Answers.{reported}
-use Rattle.meaning.specs.PromiseLaws.{kept-refusal, kept-done}
+use Rattle.meaning.specs.PromiseLaws.{kept-report, kept-done}
 use Rattle.meaning.specs.declared.Report.{Report}
 use Rattle.meaning.specs.declared.Report.the-variants.{Ok}
 use Rattle.meaning.specs.declared.FileNo.{FileNo}
@@ -25,15 +25,14 @@ module _ (b br fr cr : List ℕ) (c : ℕ) (d : Closing) (decided : Closes (tabl
 
   refuses : (why : Report) → d ≡ No why → Promise (Call.Close c) t [] (record { answer = reported why; buffer = []; tables = t })
   refuses why e =
-      let told = subst (Inside t c) e (decided .inside) in
-      rw told (kept-refusal (Call.Close c) t [] why (ap (planned c) (sym e) ∙ decided .means))
+      kept-report (Call.Close c) t [] refl why (ap (planned c) (sym e) ∙ decided .means)
 
   alone-in : d ≡ Alone → c < channelCount cr
   alone-in e = subst (Inside t c) e (decided .inside)
 
   module _ (records : List ℕ) (blanked : records ≡ withRecord 8 cr c (channelRecord 0 0)) where
     alone : d ≡ Alone → Promise (Call.Close c) t [] (record { answer = reported Ok; buffer = []; tables = tables b br fr records })
-    unfolding putAll put reported numberOf
+    unfolding putAll put
     alone e =
         kept-done (Call.Close c) t [] [] [] (channel c noChannel ∷ []) (ap (planned c) (sym e) ∙ decided .means)
         (tables b br fr records) (ap (tables b br fr) blanked)
@@ -48,7 +47,7 @@ module _ (b br fr cr : List ℕ) (c : ℕ) (d : Closing) (decided : Closes (tabl
     with-file : (records : List ℕ) → records ≡ withRecord 8 cr c (channelRecord 0 0) → (br′ fr′ : List ℕ)
         → ((blocks channels : List ℕ) → tables blocks br′ fr′ channels ≡ put (tables blocks br fr channels) (file (f .0) (cleared 0 0)))
         → Promise (Call.Close c) t [] (record { answer = reported Ok; buffer = []; tables = tables b br′ fr′ records })
-    unfolding putAll put reported numberOf
+    unfolding putAll put
     with-file records blanked br′ fr′ clears =
         kept-done (Call.Close c) t [] [] [] (channel c noChannel ∷ file (f .0) noFile ∷ []) (ap (planned c) (sym e) ∙ decided .means)
         (tables b br′ fr′ records) (clears b records ∙ ap (λ l. put (tables b br fr l) (file (f .0) noFile)) blanked)

@@ -23,7 +23,7 @@ use Rattle.tables.specs.declared.FileRecord.{FileRecord}
 use Rattle.files.specs.FileLaws.{clearable}
 use Rattle.counts.specs.OfStore.{OfStore, of-store}
 use Rattle.channels.specs.Held.{OnChannel, Holds, onChannelOf}
-use Rattle.channels.specs.HeldLaws.{refuses, refused-report, holding, gives, channel-there, file-there, file-used, file-some, file-last, kind-is}
+use Rattle.channels.specs.HeldLaws.{refuses, holding, gives, channel-there, file-there, file-used, file-some, file-last, kind-is}
 use Rattle.channels.specs.Close.{Closes}
 use Rattle.channels.specs.CloseLaws.{closed, holders, stays-directory, stays-held, stays-named, goes}
 use Rattle.channels.specs.declared.Held.{Held}
@@ -44,7 +44,7 @@ module _ (b br fr cr : List ℕ) (c : ℕ) (h : Held) (on : OnChannel (tables b 
   t = tables b br fr cr
 
   refusal : (why : Report) → h ≡ Refused why → Closes t c (No why)
-  refusal why e = record { means = refuses t c h on why e (rest t c) ∙ on-channel t c; inside = refused-report why t c h on e }
+  refusal why e = record { means = refuses t c h on why e (rest t c) ∙ on-channel t c; inside = tt }
 
   module _ (y : ChannelRecord) (e : h ≡ Open y) where
     abbrev f : ℕ

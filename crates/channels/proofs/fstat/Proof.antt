@@ -7,7 +7,7 @@ use lib.ListN.{length}
 use Rattle.meaning.specs.Tables.{Tables, storeOf, putAll}
 use Rattle.meaning.specs.ChannelCalls.{fstat}
 use Rattle.meaning.specs.Result.{Result, refused, done}
-use Rattle.meaning.specs.Run.{Call, resultOf, meaning, accepts, Promise, refusal, numbers}
+use Rattle.meaning.specs.Run.{Call, resultOf, meaning, accepts, Promise, refusal, accepted}
 use Rattle.meaning.specs.PromiseLaws.{kept-refusal, kept-done}
 use Rattle.meaning.specs.declared.Report.{Report}
 use Rattle.tables.specs.declared.ChannelRecord.{ChannelRecord}
@@ -30,11 +30,11 @@ unfolding resultOf meaning accepts fstat onChannelOf
 on-channel t c = refl
 
 module _ (t : Tables) (c : ℕ) (h : Held) (on : OnChannel t c h) where
-  refused-so : (why : Report) → h ≡ Refused why → Promise (Call.Fstat c) t [] (record { answer = refusal why; buffer = []; tables = t })
+  refused-so : (why : Report) → h ≡ Refused why → Promise (Call.Fstat c) t [] (record { answer = refusal 3 why; buffer = []; tables = t })
   refused-so why e = kept-refusal (Call.Fstat c) t [] why (refuses t c h on why e (rest t c) ∙ on-channel t c)
 
   told : (y : ChannelRecord) → h ≡ Open y → (x : FileRecord) → FileRead (t .fileRecords) (y .file .0 - 1) x
-      → Promise (Call.Fstat c) t [] (record { answer = numbers (x .length ∷ y .file .0 ∷ x .kind ∷ []); buffer = []; tables = t })
+      → Promise (Call.Fstat c) t [] (record { answer = accepted (x .length ∷ y .file .0 ∷ x .kind ∷ []); buffer = []; tables = t })
   unfolding putAll
   told y e x read =
       let d = holding t c h on y e in

@@ -12,7 +12,7 @@ use Rattle.meaning.specs.Store.{channel, channelTo}
 use Rattle.meaning.specs.Tables.{Tables, tables, storeOf, put, putAll, channelCount, channelRecord}
 use Rattle.meaning.specs.ChannelCalls.{read}
 use Rattle.meaning.specs.Result.{Result, done}
-use Rattle.meaning.specs.Run.{Call, resultOf, meaning, accepts, answerOf, bytesOf, changesOf, Promise, refusal, numbers}
+use Rattle.meaning.specs.Run.{Call, resultOf, meaning, accepts, answerOf, bytesOf, changesOf, Promise, refusal, accepted}
 use Rattle.meaning.specs.PromiseLaws.{kept, kept-refusal}
 use Rattle.meaning.specs.declared.Report.{Report}
 use Rattle.layout.specs.Layout.{sound-layout}
@@ -44,7 +44,7 @@ module _ (b br fr cr : List ℕ) (c : ℕ) (h : Held) (on : OnChannel (tables b 
   t = tables b br fr cr
 
   refused-so : (buffer : List ℕ) (why : Report) → h ≡ Refused why
-      → Promise (Call.Read c (length buffer)) t buffer (record { answer = refusal why; buffer = buffer; tables = t })
+      → Promise (Call.Read c (length buffer)) t buffer (record { answer = refusal 1 why; buffer = buffer; tables = t })
   refused-so buffer why e =
       kept-refusal (Call.Read c (length buffer)) t buffer why (refuses t c h on why e (rest t c (length buffer)) ∙ on-channel t c (length buffer))
 
@@ -72,7 +72,7 @@ module _ (b br fr cr : List ℕ) (c : ℕ) (h : Held) (on : OnChannel (tables b 
 
       gave : (next : ChannelRecord) → next ≡ movedBy y n
           → (records : List ℕ) → records ≡ withRecord 8 cr c (channelRecord (next .file .0) (next .position))
-          → Promise (Call.Read c (length buffer)) t buffer (record { answer = numbers (n ∷ []); buffer = after; tables = tables b br fr records })
+          → Promise (Call.Read c (length buffer)) t buffer (record { answer = accepted (n ∷ []); buffer = after; tables = tables b br fr records })
       unfolding answerOf bytesOf changesOf putAll put
       gave next moved records p =
           let d = holding t c h on y e in
@@ -80,7 +80,7 @@ module _ (b br fr cr : List ℕ) (c : ℕ) (h : Held) (on : OnChannel (tables b 
           let result = done (n ∷ []) out (channel c (channelTo (y .file .0) (y .position + n)) ∷ []) in
           let means : result ≡ resultOf (Call.Read c (length buffer)) t =
           rw (reads .counts cr, d .file, d .posn) (gives t c h on y e (rest t c (length buffer)) ∙ on-channel t c (length buffer)) in
-          kept (Call.Read c (length buffer)) t buffer result means (record { answer = numbers (n ∷ []); buffer = after; tables = tables b br fr records })
+          kept (Call.Read c (length buffer)) t buffer result means (record { answer = accepted (n ∷ []); buffer = after; tables = tables b br fr records })
           refl (reads .fills cr) (ap (tables b br fr) (rw (p, moved)))
 
 held-channel-requires : tie.Need-held-channel-requires

@@ -5,7 +5,7 @@ use mathlib.Core.List.{List, [], _∷_}
 use borrow.Author.Needs.{needs}
 use Rattle.records.specs.Numbers.{withRecord}
 use Rattle.meaning.specs.Tables.{Tables, tables, put, putAll, channelCount, channelRecord}
-use Rattle.meaning.specs.Run.{Call, Promise, refusal, numbers}
+use Rattle.meaning.specs.Run.{Call, Promise, refusal, accepted}
 use Rattle.meaning.specs.PromiseLaws.{kept-refusal, kept-done}
 use Rattle.meaning.specs.Store.{channel, channelTo}
 use Rattle.meaning.specs.declared.Report.{Report}
@@ -17,12 +17,12 @@ use Rattle.channels.proofs.seek.Statement.{statement}
 use Rattle.channels.proofs.seek.Tie as tie
 
 module _ (t : Tables) (c mode n : ℕ) (d : Seeking) (decided : Decided t c mode n d) where
-  refuses : (why : Report) → d ≡ No why → Promise (Call.Seek c mode n) t [] (record { answer = refusal why; buffer = []; tables = t })
+  refuses : (why : Report) → d ≡ No why → Promise (Call.Seek c mode n) t [] (record { answer = refusal 1 why; buffer = []; tables = t })
   refuses why e = kept-refusal (Call.Seek c mode n) t [] why (ap (planned c) (sym e) ∙ decided .means)
 
   module _ (y : ChannelRecord) (e : d ≡ To y) where
     moves : (records : List ℕ) → records ≡ withRecord 8 (t .channelRecords) c (channelRecord (y .file .0) (y .position))
-        → Promise (Call.Seek c mode n) t [] (record { answer = numbers (y .position ∷ []); buffer = []; tables = tables (t .blocks) (t .blockRecords) (t .fileRecords) records })
+        → Promise (Call.Seek c mode n) t [] (record { answer = accepted (y .position ∷ []); buffer = []; tables = tables (t .blocks) (t .blockRecords) (t .fileRecords) records })
     unfolding putAll put
     moves records p =
         kept-done (Call.Seek c mode n) t [] (y .position ∷ []) [] (channel c (channelTo (y .file .0) (y .position)) ∷ []) (ap (planned c) (sym e) ∙ decided .means)

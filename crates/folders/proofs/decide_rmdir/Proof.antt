@@ -12,8 +12,7 @@ use Rattle.meaning.specs.Store.{Store, file, noFile, root, isDirectory, named, 
 use Rattle.meaning.specs.Tables.{Tables, tables, storeOf, fileLength}
 use Rattle.meaning.specs.NameCalls.{parent, recordFor, unnaming, rmdir}
 use Rattle.meaning.specs.Result.{Result, done, unless, missing}
-use Rattle.meaning.specs.Run.{Call, resultOf, meaning, accepts, numberOf}
-use Rattle.meaning.specs.Answers.{reported}
+use Rattle.meaning.specs.Run.{Call, resultOf, meaning, accepts}
 use Rattle.meaning.specs.declared.Report.{Report}
 use Rattle.meaning.specs.declared.Report.the-variants.{NoSuchName, NotDirectory, InUse, NotEmpty}
 use Rattle.tables.specs.Searches.{channelsWith}
@@ -24,7 +23,7 @@ use Rattle.lookup.specs.Filed.{filed}
 use Rattle.naming.specs.Judged.{OnName, onNameOf, refuses}
 use Rattle.naming.specs.Located.{Locates, InPlace, Recorded}
 use Rattle.naming.specs.At.{At, located-shelves, located-counted, located-at, follows, is-missing, not-missing, file-directory}
-use Rattle.naming.specs.InStore.{found-record, located-in-place, refusal-told}
+use Rattle.naming.specs.InStore.{found-record, located-in-place}
 use Rattle.naming.specs.declared.Judged.{Judged}
 use Rattle.naming.specs.declared.Judged.the-variants.{Syllables, Refused}
 use Rattle.naming.specs.declared.Located.{Located}
@@ -51,7 +50,7 @@ unfolding resultOf meaning accepts rmdir onNameOf
 on-name t bytes = refl
 
 refusal : (t : Tables) (bytes : List ℕ) (h : Judged) → OnName t bytes h → (why : Report) → h ≡ Refused why → Removed t bytes (No why)
-refusal t bytes h on why e = record { means = refuses t bytes h on why e (rest t) ∙ on-name t bytes; inside = refusal-told t bytes h on why e }
+refusal t bytes h on why e = record { means = refuses t bytes h on why e (rest t) ∙ on-name t bytes; inside = tt }
 
 module _ (t : Tables) (bytes : List ℕ) (k : ℕ) (x : Located) (a : At t bytes k x) where
   abbrev s : Store
@@ -61,20 +60,20 @@ module _ (t : Tables) (bytes : List ℕ) (k : ℕ) (x : Located) (a : At t bytes
   given = follows t bytes k x a (rest t) ∙ on-name t bytes
 
   no-name : x .file .0 ≡ 0 → Removed t bytes (No NoSuchName)
-  unfolding unless reported numberOf
-  no-name e = record { means = rw (is-missing t bytes k x a e) at given; inside = refl }
+  unfolding unless
+  no-name e = record { means = rw (is-missing t bytes k x a e) at given; inside = tt }
 
   module _ (some : x .file .0 ≢ 0) (v : Bool) (seen : v ≡ isDirectory (filesStore (t .fileRecords)) (x .file .0)) where
     no-directory : v ≡ false → Removed t bytes (No NotDirectory)
-    unfolding unless reported numberOf
-    no-directory e = record { means = rw (not-missing t bytes k x a some, file-directory t bytes k x a v seen, e) at given; inside = refl }
+    unfolding unless
+    no-directory e = record { means = rw (not-missing t bytes k x a some, file-directory t bytes k x a v seen, e) at given; inside = tt }
 
     module _ (is : v ≡ true) where
       its-root : x .file .0 ≡ 1 → Removed t bytes (No InUse)
-      unfolding unless reported numberOf
+      unfolding unless
       its-root e =
           let one : eqb (named s (a .name)) root ≡ true = eq-eqb (named s (a .name)) root (sym (a .stands) ∙ e) in
-          record { means = rw (not-missing t bytes k x a some, file-directory t bytes k x a v seen, is, one) at given; inside = refl }
+          record { means = rw (not-missing t bytes k x a some, file-directory t bytes k x a v seen, is, one) at given; inside = tt }
 
       module _ (not-one : x .file .0 ≢ 1) (u : Bool) (holds : u ≡ ltb 0 (channelsWith (t .channelRecords) (x .file .0))) where
         not-root : eqb (named s (a .name)) root ≡ false
@@ -84,9 +83,9 @@ module _ (t : Tables) (bytes : List ℕ) (k : ℕ) (x : Located) (a : At t bytes
         held-is = ap (held s) (sym (a .stands)) ∙ held-channels t (x .file .0) ∙ sym holds
 
         in-use : u ≡ true → Removed t bytes (No InUse)
-        unfolding unless reported numberOf
+        unfolding unless
         in-use e =
-            record { means = rw (not-missing t bytes k x a some, file-directory t bytes k x a v seen, is, not-root, held-is, e) at given; inside = refl }
+            record { means = rw (not-missing t bytes k x a some, file-directory t bytes k x a v seen, is, not-root, held-is, e) at given; inside = tt }
 
         module _ (free : u ≡ false) (count : ℕ) (counted : count ≡ fileLength (t .fileRecords) (x .file .0) / 16)
             (names : ℕ) (has : names ≡ placeCount (t .blocks) (t .blockRecords) (x .file .0) count) where
@@ -100,12 +99,12 @@ module _ (t : Tables) (bytes : List ℕ) (k : ℕ) (x : Located) (a : At t bytes
           name-count = ap (λ (f : ℕ). nameCount (s .file f .bytes)) (sym (a .stands)) ∙ sym (has ∙ listed-count t (a .ok) (x .file .0) directory count counted)
 
           not-empty : names ≢ 0 → Removed t bytes (No NotEmpty)
-          unfolding unless reported numberOf
+          unfolding unless
           not-empty d =
               let full : isEmpty dir ≡ false = names-not-empty dir (λ e. d (sym name-count ∙ e)) in
               record {
                 means = rw (not-missing t bytes k x a some, file-directory t bytes k x a v seen, is, not-root, held-is, free, full) at given;
-                inside = refl;
+                inside = tt;
               }
 
           removes : names ≡ 0 → (i : ℕ) → i ≡ recordFor s (a .name) → Removed t bytes (Of (x .parent) i (x .file))

@@ -1,6 +1,6 @@
 -- What is decided is done: a refusal leaves the tables; else the name gets its record and the directory is made.
 use Prim.Native.Nat.{ℕ, _≤_, _<_}
-use mathlib.Core.Path.{_≡_, sym, ap, subst, _∙_}
+use mathlib.Core.Path.{_≡_, refl, sym, ap, subst, _∙_}
 use mathlib.Core.List.{List, [], _∷_}
 use mathlib.Core.Bool.{true}
 use borrow.Author.Needs.{needs}
@@ -9,9 +9,9 @@ use Rattle.meaning.specs.Name.{isSyllable}
 use Rattle.meaning.specs.Store.{file, directory}
 use Rattle.meaning.specs.NameCalls.{rewritten}
 use Rattle.meaning.specs.Tables.{Tables, tables, storeOf, put}
-use Rattle.meaning.specs.Run.{Call, Promise, Answer, refusal, numberOf}
+use Rattle.meaning.specs.Run.{Call, Promise, Answer}
 use Rattle.meaning.specs.Answers.{reported}
-use Rattle.meaning.specs.PromiseLaws.{kept-refusal, kept-done}
+use Rattle.meaning.specs.PromiseLaws.{kept-report, kept-done}
 use Rattle.meaning.specs.declared.Report.{Report}
 use Rattle.meaning.specs.declared.Report.the-variants.{Ok}
 use Rattle.meaning.specs.declared.FileNo.{FileNo}
@@ -36,8 +36,7 @@ module _ (b br fr cr bytes : List ℕ) (d : Making) (decided : Made (tables b br
 
   refuses : (why : Report) → d ≡ No why → Kept t bytes (reported why) t
   refuses why e =
-      let told : reported why ≡ refusal why = subst (Inside t bytes) e (decided .inside) in
-      rw told (kept-refusal (Call.Mkdir bytes) t [] why (ap (planned t bytes) (sym e) ∙ decided .means))
+      kept-report (Call.Mkdir bytes) t [] refl why (ap (planned t bytes) (sym e) ∙ decided .means)
 
   module _ (p : FileNo) (i : ℕ) (f : FileNo) (depth : ℕ) (e : d ≡ Of p i f depth) where
     names-so : Names t bytes (p .0) i (f .0)
@@ -56,7 +55,6 @@ module _ (b br fr cr bytes : List ℕ) (d : Making) (decided : Made (tables b br
       made : (br″ fr″ : List ℕ)
           → ((blocks channels : List ℕ) → tables blocks br″ fr″ channels ≡ put (tables blocks br′ fr′ channels) (file (f .0) (cleared 2 depth)))
           → Kept t bytes (reported Ok) (tables b′ br″ fr″ cr)
-      unfolding reported numberOf
       made br″ fr″ clears =
           kept-done (Call.Mkdir bytes) t [] [] [] (file (p .0) (rewritten (storeOf t) (p .0) i (recordOf (f .0) bytes)) ∷ file (f .0) (directory depth []) ∷ [])
           (ap (planned t bytes) (sym e) ∙ decided .means) (tables b′ br″ fr″ cr)

@@ -1,15 +1,15 @@
 -- What is decided is done: a refusal leaves the tables; else the record is made blank and the directory cleared.
 use Prim.Native.Nat.{ℕ, _<_}
-use mathlib.Core.Path.{_≡_, sym, ap, subst, _∙_}
+use mathlib.Core.Path.{_≡_, refl, sym, ap, subst, _∙_}
 use mathlib.Core.List.{List, [], _∷_}
 use borrow.Author.Needs.{needs}
 use Rattle.meaning.specs.Name.{blankRecord}
 use Rattle.meaning.specs.Store.{file, noFile}
 use Rattle.meaning.specs.NameCalls.{rewritten}
 use Rattle.meaning.specs.Tables.{Tables, tables, storeOf, put}
-use Rattle.meaning.specs.Run.{Call, Promise, Answer, refusal, numberOf}
+use Rattle.meaning.specs.Run.{Call, Promise, Answer}
 use Rattle.meaning.specs.Answers.{reported}
-use Rattle.meaning.specs.PromiseLaws.{kept-refusal, kept-done}
+use Rattle.meaning.specs.PromiseLaws.{kept-report, kept-done}
 use Rattle.meaning.specs.declared.Report.{Report}
 use Rattle.meaning.specs.declared.Report.the-variants.{Ok}
 use Rattle.meaning.specs.declared.FileNo.{FileNo}
@@ -33,8 +33,7 @@ module _ (b br fr cr bytes : List ℕ) (d : Removing) (decided : Removed (tables
 
   refuses : (why : Report) → d ≡ No why → Kept t bytes (reported why) t
   refuses why e =
-      let told : reported why ≡ refusal why = subst (Inside t) e (decided .inside) in
-      rw told (kept-refusal (Call.Rmdir bytes) t [] why (ap (planned t) (sym e) ∙ decided .means))
+      kept-report (Call.Rmdir bytes) t [] refl why (ap (planned t) (sym e) ∙ decided .means)
 
   module _ (p : FileNo) (i : ℕ) (f : FileNo) (e : d ≡ Of p i f) where
     able-so : Able t (p .0) i blankRecord (f .0)
@@ -53,7 +52,6 @@ module _ (b br fr cr bytes : List ℕ) (d : Removing) (decided : Removed (tables
       removed : (br″ fr″ : List ℕ)
           → ((blocks channels : List ℕ) → tables blocks br″ fr″ channels ≡ put (tables blocks br′ fr′ channels) (file (f .0) (cleared 0 0)))
           → Kept t bytes (reported Ok) (tables b′ br″ fr″ cr)
-      unfolding reported numberOf
       removed br″ fr″ clears =
           kept-done (Call.Rmdir bytes) t [] [] [] (file (p .0) (rewritten (storeOf t) (p .0) i blankRecord) ∷ file (f .0) noFile ∷ [])
           (ap (planned t) (sym e) ∙ decided .means) (tables b′ br″ fr″ cr) (both-made b br fr cr (p .0) i blankRecord (f .0) 0 0 b′ br′ fr′ took br″ fr″ clears)

@@ -1,18 +1,17 @@
 -- What is decided is done: a refusal leaves the tables, and else the plan's changes are made.
 use Prim.Native.Nat.{ℕ}
-use mathlib.Core.Path.{_≡_}
+use mathlib.Core.Path.{_≡_, refl}
 use mathlib.Core.List.{List, []}
 use borrow.Author.Needs.{needs}
 use Rattle.meaning.specs.Tables.{Tables, tables, storeOf, putAll}
-use Rattle.meaning.specs.Run.{Call, Promise, numberOf}
+use Rattle.meaning.specs.Run.{Call, Promise}
 use Rattle.meaning.specs.Answers.{reported}
-use Rattle.meaning.specs.PromiseLaws.{kept-refusal, kept-done}
+use Rattle.meaning.specs.PromiseLaws.{kept-report, kept-done}
 use Rattle.meaning.specs.declared.Report.{Report}
 use Rattle.meaning.specs.declared.Report.the-variants.{Ok}
 use Rattle.linking.specs.Link.{Decides, refuses-link, accepts-link}
 use Rattle.linking.specs.Act.{linkChanges, Linkable}
 use Rattle.linking.specs.ActLaws.{means, linkable}
-use Rattle.linking.specs.Told.{link-told}
 use Rattle.linking.specs.declared.Plan.{Plan}
 use Rattle.linking.specs.declared.Linking.{Linking}
 use Rattle.linking.specs.declared.Linking.the-variants.{Of, No}
@@ -24,10 +23,7 @@ module _ (b br fr cr old new : List ℕ) (d : Linking) (decided : Decides (table
   t = tables b br fr cr
 
   refuses : (why : Report) → d ≡ No why → Promise (Call.Link old new) t [] (record { answer = reported why; buffer = []; tables = t })
-  refuses why e =
-      let cause = refuses-link t old new d decided why e in
-      let told = link-told t old new why cause in
-      rw told (kept-refusal (Call.Link old new) t [] why cause)
+  refuses why e = kept-report (Call.Link old new) t [] refl why (refuses-link t old new d decided why e)
 
   module _ (p : Plan) (e : d ≡ Of p) where
     able : Linkable b br fr new p
@@ -35,7 +31,6 @@ module _ (b br fr cr old new : List ℕ) (d : Linking) (decided : Decides (table
 
     links : (b′ br′ fr′ : List ℕ) → ((channels : List ℕ) → tables b′ br′ fr′ channels ≡ putAll (tables b br fr channels) (linkChanges (storeOf (tables b br fr channels)) new p))
         → Promise (Call.Link old new) t [] (record { answer = reported Ok; buffer = []; tables = tables b′ br′ fr′ cr })
-    unfolding reported numberOf
     links b′ br′ fr′ made =
         kept-done (Call.Link old new) t [] [] [] (linkChanges (storeOf t) new p) (means t old new p (accepts-link t old new d decided p e))
         (tables b′ br′ fr′ cr) (made cr)

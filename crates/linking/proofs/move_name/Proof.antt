@@ -1,18 +1,17 @@
 -- What is decided is done: a refusal leaves the tables, and else the changes of link are made, and then those of taking the old name.
 use Prim.Native.Nat.{ℕ}
-use mathlib.Core.Path.{_≡_}
+use mathlib.Core.Path.{_≡_, refl}
 use mathlib.Core.List.{List, [], _++_}
 use borrow.Author.Needs.{needs}
 use Rattle.meaning.specs.Store.{afterAll}
 use Rattle.meaning.specs.Tables.{Tables, tables, storeOf, putAll}
-use Rattle.meaning.specs.Run.{Call, Promise, numberOf}
+use Rattle.meaning.specs.Run.{Call, Promise}
 use Rattle.meaning.specs.Answers.{reported}
-use Rattle.meaning.specs.PromiseLaws.{kept-refusal, kept-done}
+use Rattle.meaning.specs.PromiseLaws.{kept-report, kept-done}
 use Rattle.meaning.specs.declared.Report.{Report}
 use Rattle.meaning.specs.declared.Report.the-variants.{Ok}
 use Rattle.linking.specs.Act.{linkChanges, dropChanges, Linkable, Droppable}
 use Rattle.linking.specs.ActLaws.{linkable}
-use Rattle.linking.specs.Told.{link-told}
 use Rattle.linking.specs.Move.{Movable, DecidesMove, refuses-move, accepts-move}
 use Rattle.linking.specs.MoveActs.{move-refusal, moves, droppable, moved}
 use Rattle.linking.specs.declared.Plan.{Plan}
@@ -27,9 +26,7 @@ module _ (b br fr cr old new : List ℕ) (d : Moving) (decided : DecidesMove (ta
 
   refuses : (why : Report) → d ≡ No why → Promise (Call.Move old new) t [] (record { answer = reported why; buffer = []; tables = t })
   refuses why e =
-      let cause = refuses-move t old new d decided why e in
-      let told = link-told t old new why cause in
-      rw told (kept-refusal (Call.Move old new) t [] why (move-refusal t old new why cause))
+      kept-report (Call.Move old new) t [] refl why (move-refusal t old new why (refuses-move t old new d decided why e))
 
   module _ (p : Plan) (i : ℕ) (e : d ≡ Of p i) where
     m : Movable t old new p i
@@ -46,7 +43,6 @@ module _ (b br fr cr old new : List ℕ) (d : Moving) (decided : DecidesMove (ta
       moved-so : (b″ br″ fr″ : List ℕ)
           → ((channels : List ℕ) → tables b″ br″ fr″ channels ≡ putAll (tables b′ br′ fr′ channels) (dropChanges (storeOf (tables b′ br′ fr′ channels)) p i))
           → Promise (Call.Move old new) t [] (record { answer = reported Ok; buffer = []; tables = tables b″ br″ fr″ cr })
-      unfolding reported numberOf
       moved-so b″ br″ fr″ dropped =
           kept-done (Call.Move old new) t [] [] [] (linkChanges (storeOf t) new p ++ dropChanges (afterAll (storeOf t) (linkChanges (storeOf t) new p)) p i) (moves t old new p i m)
           (tables b″ br″ fr″ cr) (moved t old new p i m (tables b′ br′ fr′ cr) (made cr) (tables b″ br″ fr″ cr) (dropped cr))

@@ -6,7 +6,7 @@ use borrow.Author.Needs.{needs}
 use lib.ListN.{length}
 use Rattle.meaning.specs.File.{over}
 use Rattle.meaning.specs.Tables.{tables, putAll}
-use Rattle.meaning.specs.Run.{Call, Promise, refusal, numbers}
+use Rattle.meaning.specs.Run.{Call, Promise, refusal, accepted}
 use Rattle.meaning.specs.PromiseLaws.{kept-refusal, kept-done}
 use Rattle.meaning.specs.declared.Report.{Report}
 use Rattle.meaning.specs.declared.FileNo.{FileNo}
@@ -19,7 +19,7 @@ use Rattle.listing.proofs.ls.Statement.{statement}
 use Rattle.listing.proofs.ls.Tie as tie
 
 module _ (b br fr cr bytes buffer : List ℕ) (d : Listing) (decided : Decided (tables b br fr cr) bytes (length buffer) d) where
-  refuses : (why : Report) → d ≡ No why → Promise (Call.Ls bytes (length buffer)) (tables b br fr cr) buffer (record { answer = refusal why; buffer = buffer; tables = tables b br fr cr })
+  refuses : (why : Report) → d ≡ No why → Promise (Call.Ls bytes (length buffer)) (tables b br fr cr) buffer (record { answer = refusal 1 why; buffer = buffer; tables = tables b br fr cr })
   refuses why e = kept-refusal (Call.Ls bytes (length buffer)) (tables b br fr cr) buffer why (ap (planned (tables b br fr cr)) (sym e) ∙ decided .means)
 
   module _ (f : FileNo) (count names : ℕ) (e : d ≡ Of f count names) where
@@ -33,7 +33,7 @@ module _ (b br fr cr bytes buffer : List ℕ) (d : Listing) (decided : Decided (
     room = fitting .room
 
     lists : (filled : List ℕ) → filled ≡ over buffer (placeNames b br (f .0) count)
-        → Promise (Call.Ls bytes (length buffer)) (tables b br fr cr) buffer (record { answer = numbers (names ∷ []); buffer = filled; tables = tables b br fr cr })
+        → Promise (Call.Ls bytes (length buffer)) (tables b br fr cr) buffer (record { answer = accepted (names ∷ []); buffer = filled; tables = tables b br fr cr })
     unfolding putAll
     lists filled p =
         rw p

@@ -11,7 +11,7 @@ use Rattle.meaning.specs.Name.{isSyllable}
 use Rattle.meaning.specs.Store.{file, channel, channelTo, ordinary}
 use Rattle.meaning.specs.NameCalls.{rewritten}
 use Rattle.meaning.specs.Tables.{Tables, tables, storeOf, put, putAll, channelCount, channelRecord}
-use Rattle.meaning.specs.Run.{Call, Promise, Answer, refusal, numbers}
+use Rattle.meaning.specs.Run.{Call, Promise, Answer, refusal, accepted}
 use Rattle.meaning.specs.PromiseLaws.{kept-refusal, kept-done}
 use Rattle.meaning.specs.declared.Report.{Report}
 use Rattle.meaning.specs.declared.ChannelNo.{ChannelNo}
@@ -43,7 +43,7 @@ module _ (b br fr cr bytes : List ℕ) (d : Creating) (decided : Created (tables
   abbrev t : Tables
   t = tables b br fr cr
 
-  refuses : (why : Report) → d ≡ No why → Kept t bytes (refusal why) t
+  refuses : (why : Report) → d ≡ No why → Kept t bytes (refusal 1 why) t
   refuses why e = kept-refusal (Call.Create bytes) t [] why (ap (plannedNew t bytes) (sym e) ∙ decided .means)
 
   module _ (c : ChannelNo) (f : FileNo) (e : d ≡ Old c f) where
@@ -57,7 +57,7 @@ module _ (b br fr cr bytes : List ℕ) (d : Creating) (decided : Created (tables
     old-channel = empties .below
 
     old-emptied : (br′ fr′ : List ℕ) → Emptied br fr br′ fr′ (f .0) → (cr′ : List ℕ) → cr′ ≡ withRecord 8 cr (c .0) (channelRecord (f .0) 0)
-        → Kept t bytes (numbers (c .0 ∷ [])) (tables b br′ fr′ cr′)
+        → Kept t bytes (accepted (c .0 ∷ [])) (tables b br′ fr′ cr′)
     unfolding putAll
     old-emptied br′ fr′ clears cr′ p =
         kept-done (Call.Create bytes) t [] (c .0 ∷ []) [] (file (f .0) (ordinary []) ∷ channel (c .0) (channelTo (f .0) 0) ∷ [])
@@ -82,7 +82,7 @@ module _ (b br fr cr bytes : List ℕ) (d : Creating) (decided : Created (tables
       new-clears = clearable-written b br fr (p .0) i (recordOf (f .0) bytes) rewritable b′ br′ fr′ gave (f .0) (makes .from-one) (makes .to-last)
 
       new-made : (br″ fr″ : List ℕ) → Emptied br′ fr′ br″ fr″ (f .0) → (cr′ : List ℕ) → cr′ ≡ withRecord 8 cr (c .0) (channelRecord (f .0) 0)
-          → Kept t bytes (numbers (c .0 ∷ [])) (tables b′ br″ fr″ cr′)
+          → Kept t bytes (accepted (c .0 ∷ [])) (tables b′ br″ fr″ cr′)
       unfolding putAll
       new-made br″ fr″ clears cr′ q =
           let given = file (p .0) (rewritten (storeOf t) (p .0) i (recordOf (f .0) bytes)) in

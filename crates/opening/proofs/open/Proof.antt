@@ -5,7 +5,7 @@ use mathlib.Core.List.{List, [], _∷_}
 use borrow.Author.Needs.{needs}
 use Rattle.records.specs.Numbers.{withRecord}
 use Rattle.meaning.specs.Tables.{Tables, tables, put, putAll, channelCount, channelRecord}
-use Rattle.meaning.specs.Run.{Call, Promise, refusal, numbers}
+use Rattle.meaning.specs.Run.{Call, Promise, refusal, accepted}
 use Rattle.meaning.specs.PromiseLaws.{kept-refusal, kept-done}
 use Rattle.meaning.specs.Store.{channel, channelTo}
 use Rattle.meaning.specs.declared.Report.{Report}
@@ -18,11 +18,11 @@ use Rattle.opening.proofs.open.Statement.{statement}
 use Rattle.opening.proofs.open.Tie as tie
 
 module _ (t : Tables) (bytes : List ℕ) (d : Opening) (decided : Decided t bytes d) where
-  refuses : (why : Report) → d ≡ No why → Promise (Call.Open bytes) t [] (record { answer = refusal why; buffer = []; tables = t })
+  refuses : (why : Report) → d ≡ No why → Promise (Call.Open bytes) t [] (record { answer = refusal 1 why; buffer = []; tables = t })
   refuses why e = kept-refusal (Call.Open bytes) t [] why (ap planned (sym e) ∙ decided .means)
 
   opens : (c : ChannelNo) (f : FileNo) → d ≡ Of c f → (records : List ℕ) → records ≡ withRecord 8 (t .channelRecords) (c .0) (channelRecord (f .0) 0)
-      → Promise (Call.Open bytes) t [] (record { answer = numbers (c .0 ∷ []); buffer = []; tables = tables (t .blocks) (t .blockRecords) (t .fileRecords) records })
+      → Promise (Call.Open bytes) t [] (record { answer = accepted (c .0 ∷ []); buffer = []; tables = tables (t .blocks) (t .blockRecords) (t .fileRecords) records })
   unfolding putAll put
   opens c f e records p =
       kept-done (Call.Open bytes) t [] (c .0 ∷ []) [] (channel (c .0) (channelTo (f .0) 0) ∷ []) (ap planned (sym e) ∙ decided .means)

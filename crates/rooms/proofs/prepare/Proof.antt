@@ -13,9 +13,9 @@ use Rattle.meaning.specs.Tables.{Tables, tables, put, putAll, fileCount, fileRe
 use Rattle.meaning.specs.FileLaws.{length-zeros}
 use Rattle.meaning.specs.Sound.{lengthsAgree}
 use Rattle.meaning.specs.Result.{Result, refused, done, unless}
-use Rattle.meaning.specs.Run.{Call, meaning, accepts, resultOf, Promise, numberOf}
+use Rattle.meaning.specs.Run.{Call, meaning, accepts, resultOf, Promise}
 use Rattle.meaning.specs.Answers.{reported}
-use Rattle.meaning.specs.PromiseLaws.{kept-refusal, kept-done}
+use Rattle.meaning.specs.PromiseLaws.{kept-report, kept-done}
 use Rattle.meaning.specs.declared.Report.the-variants.{Ok, NotAStore}
 use Rattle.layout.specs.Lengths.{lengths-agree}
 use Rattle.rooms.proofs.prepare.Statement.{statement}
@@ -26,8 +26,8 @@ module _ (b br fr cr : List ℕ) (ok : Bool) (is : ok ≡ lengthsAgree (tables b
   t = tables b br fr cr
 
   disagree : not ok ≡ true → Promise Call.Prepare t [] (record { answer = reported NotAStore; buffer = []; tables = t })
-  unfolding resultOf accepts unless reported numberOf
-  disagree e = kept-refusal Call.Prepare t [] NotAStore (rw (sym is ∙ not-true ok e))
+  unfolding resultOf accepts unless
+  disagree e = kept-report Call.Prepare t [] refl NotAStore (rw (sym is ∙ not-true ok e))
 
   module _ (so : not ok ≡ false) (blank : List ℕ) (blanked : blank ≡ replicate (length fr) 0) where
     root-there : 1 ≤ fileCount blank
@@ -35,7 +35,7 @@ module _ (b br fr cr : List ℕ) (ok : Bool) (is : ok ≡ lengthsAgree (tables b
 
     module _ (br′ fr′ cr′ : List ℕ) (zero-blocks : br′ ≡ replicate (length br) 0) (root : fr′ ≡ withRecord 8 blank 0 (fileRecord 2 0 0)) (zero-channels : cr′ ≡ replicate (length cr) 0) where
       prepares : Promise Call.Prepare t [] (record { answer = reported Ok; buffer = []; tables = tables b br′ fr′ cr′ })
-      unfolding resultOf accepts meaning unless reported numberOf putAll put
+      unfolding resultOf accepts meaning unless putAll put
       prepares =
           kept-done Call.Prepare t [] [] [] (prepared ∷ []) (rw (sym is ∙ not-false ok so)) (tables b br′ fr′ cr′) (rw (zero-blocks, root, blanked, zero-channels))
 

@@ -12,7 +12,7 @@ use Rattle.meaning.specs.Tables.{Tables, tables, storeOf, putAll, blockCount, f
 use Rattle.meaning.specs.Sound.{sound}
 use Rattle.meaning.specs.ChannelCalls.{room}
 use Rattle.meaning.specs.Result.{Result, refused, done, unless}
-use Rattle.meaning.specs.Run.{Call, meaning, accepts, resultOf, Promise, refusal, numbers}
+use Rattle.meaning.specs.Run.{Call, meaning, accepts, resultOf, Promise, refusal, accepted}
 use Rattle.meaning.specs.PromiseLaws.{kept-refusal, kept-done}
 use Rattle.meaning.specs.declared.Report.the-variants.{NotAStore}
 use Rattle.tables.specs.Searches.{isOfKind, isTo, freeBlockCount, filesWith, channelsWith}
@@ -27,7 +27,7 @@ module _ (b br fr cr : List ℕ) (ok : Bool) (is : ok ≡ sound (tables b br fr 
   abbrev t : Tables
   t = tables b br fr cr
 
-  unsound : not ok ≡ true → Promise Call.Room t [] (record { answer = refusal NotAStore; buffer = []; tables = t })
+  unsound : not ok ≡ true → Promise Call.Room t [] (record { answer = refusal 3 NotAStore; buffer = []; tables = t })
   unfolding resultOf accepts unless
   unsound e = kept-refusal Call.Room t [] NotAStore (rw (sym is ∙ not-true ok e))
 
@@ -51,7 +51,7 @@ module _ (b br fr cr : List ℕ) (ok : Bool) (is : ok ≡ sound (tables b br fr 
     few-channels f n e = omega (arith, howMany-within (isTo cr f) (channelCount cr), lengths .few-channels)
 
     free : (blocks files channels : ℕ) → blocks ≡ freeBlockCount br → files ≡ filesWith fr 0 → channels ≡ channelsWith cr 0
-        → Promise Call.Room t [] (record { answer = numbers (blocks ∷ files ∷ channels ∷ []); buffer = []; tables = t })
+        → Promise Call.Room t [] (record { answer = accepted (blocks ∷ files ∷ channels ∷ []); buffer = []; tables = t })
     unfolding resultOf accepts meaning unless room putAll
     free blocks files channels e f c =
         let means : done (blocks ∷ files ∷ channels ∷ []) [] [] ≡ resultOf Call.Room t =

@@ -9,8 +9,7 @@ use Rattle.meaning.specs.Store.{Change, file, after, isDirectory, named, letGo}
 use Rattle.meaning.specs.Tables.{Tables, tables, storeOf}
 use Rattle.meaning.specs.NameCalls.{parent, recordFor, unnaming, unlink}
 use Rattle.meaning.specs.Result.{Result, done, unless, missing}
-use Rattle.meaning.specs.Run.{Call, resultOf, meaning, accepts, numberOf}
-use Rattle.meaning.specs.Answers.{reported}
+use Rattle.meaning.specs.Run.{Call, resultOf, meaning, accepts}
 use Rattle.meaning.specs.declared.Report.{Report}
 use Rattle.meaning.specs.declared.Report.the-variants.{NoSuchName, IsDirectory}
 use Rattle.meaning.specs.declared.FileNo.{FileNo}
@@ -21,7 +20,7 @@ use Rattle.counts.specs.OfStore.{OfStore}
 use Rattle.naming.specs.Judged.{OnName, onNameOf, refuses}
 use Rattle.naming.specs.Located.{Locates, InPlace, Recorded}
 use Rattle.naming.specs.At.{At, located-shelves, located-counted, located-at, follows, is-missing, not-missing, file-directory}
-use Rattle.naming.specs.InStore.{found-record, located-in-place, refusal-told}
+use Rattle.naming.specs.InStore.{found-record, located-in-place}
 use Rattle.naming.specs.declared.Judged.{Judged}
 use Rattle.naming.specs.declared.Judged.the-variants.{Syllables, Refused}
 use Rattle.naming.specs.declared.Located.{Located}
@@ -45,20 +44,20 @@ unfolding resultOf meaning accepts unlink onNameOf
 on-name t bytes = refl
 
 refusal : (t : Tables) (bytes : List ℕ) (h : Judged) → OnName t bytes h → (why : Report) → h ≡ Refused why → Decided t bytes (No why)
-refusal t bytes h on why e = record { means = refuses t bytes h on why e (rest t) ∙ on-name t bytes; inside = refusal-told t bytes h on why e }
+refusal t bytes h on why e = record { means = refuses t bytes h on why e (rest t) ∙ on-name t bytes; inside = tt }
 
 module _ (t : Tables) (bytes : List ℕ) (k : ℕ) (x : Located) (a : At t bytes k x) where
   given : rest t (a .name) ≡ resultOf (Call.Unlink bytes) t
   given = follows t bytes k x a (rest t) ∙ on-name t bytes
 
   no-name : x .file .0 ≡ 0 → Decided t bytes (No NoSuchName)
-  unfolding unless reported numberOf
-  no-name e = record { means = rw (is-missing t bytes k x a e) at given; inside = refl }
+  unfolding unless
+  no-name e = record { means = rw (is-missing t bytes k x a e) at given; inside = tt }
 
   module _ (some : x .file .0 ≢ 0) (v : Bool) (tells : v ≡ isDirectory (filesStore (t .fileRecords)) (x .file .0)) where
     directory : v ≡ true → Decided t bytes (No IsDirectory)
-    unfolding unless reported numberOf
-    directory is = record { means = rw (not-missing t bytes k x a some, file-directory t bytes k x a v tells, is) at given; inside = refl }
+    unfolding unless
+    directory is = record { means = rw (not-missing t bytes k x a some, file-directory t bytes k x a v tells, is) at given; inside = tt }
 
     module _ (isnt : v ≡ false) where
       plain : isDirectory (filesStore (t .fileRecords)) (x .file .0) ≡ false

@@ -1,6 +1,6 @@
 -- What is decided is done: a refusal leaves the tables; else the record is made blank, and the file that goes is cleared.
 use Prim.Native.Nat.{ℕ, _-_, _<_}
-use mathlib.Core.Path.{_≡_, sym, ap, subst, _∙_}
+use mathlib.Core.Path.{_≡_, refl, sym, ap, subst, _∙_}
 use mathlib.Core.Logic.{_≢_}
 use mathlib.Core.List.{List, [], _∷_}
 use native.Mathlib.Omega.{arith}
@@ -10,9 +10,9 @@ use Rattle.meaning.specs.Name.{blankRecord}
 use Rattle.meaning.specs.Store.{file, noFile}
 use Rattle.meaning.specs.NameCalls.{rewritten}
 use Rattle.meaning.specs.Tables.{Tables, tables, storeOf, put, putAll}
-use Rattle.meaning.specs.Run.{Call, Promise, Answer, refusal, numberOf}
+use Rattle.meaning.specs.Run.{Call, Promise, Answer}
 use Rattle.meaning.specs.Answers.{reported}
-use Rattle.meaning.specs.PromiseLaws.{kept-refusal, kept-done}
+use Rattle.meaning.specs.PromiseLaws.{kept-report, kept-done}
 use Rattle.meaning.specs.declared.Report.{Report}
 use Rattle.meaning.specs.declared.Report.the-variants.{Ok}
 use Rattle.meaning.specs.declared.FileNo.{FileNo}
@@ -35,8 +35,7 @@ module _ (b br fr cr bytes : List ℕ) (d : Unlinking) (decided : Decided (table
 
   refuses : (why : Report) → d ≡ No why → Kept t bytes (reported why) t
   refuses why e =
-      let told : reported why ≡ refusal why = subst (Inside t) e (decided .inside) in
-      rw told (kept-refusal (Call.Unlink bytes) t [] why (ap (planned t) (sym e) ∙ decided .means))
+      kept-report (Call.Unlink bytes) t [] refl why (ap (planned t) (sym e) ∙ decided .means)
 
   module _ (p : FileNo) (i : ℕ) (g : FileNo) (e : d ≡ Of p i g) where
     able : Takes t (p .0) i (g .0)
@@ -49,7 +48,6 @@ module _ (b br fr cr bytes : List ℕ) (d : Unlinking) (decided : Decided (table
     rewritable = able .rewritable
 
     keeps : (left : Tables) → left ≡ putAll t (file (p .0) (rewritten (storeOf t) (p .0) i blankRecord) ∷ freeing (g .0)) → Kept t bytes (reported Ok) left
-    unfolding reported numberOf
     keeps left made =
         kept-done (Call.Unlink bytes) t [] [] [] (file (p .0) (rewritten (storeOf t) (p .0) i blankRecord) ∷ freeing (g .0))
         (ap (planned t) (sym e) ∙ decided .means) left made

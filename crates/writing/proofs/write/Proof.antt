@@ -7,7 +7,7 @@ use lib.ListN.{length}
 use Rattle.records.specs.Numbers.{withRecord}
 use Rattle.meaning.specs.Store.{Change, file, channel, channelTo, ordinary}
 use Rattle.meaning.specs.Tables.{Tables, tables, storeOf, put, putAll, channelRecord}
-use Rattle.meaning.specs.Run.{Call, Promise, refusal, numbers}
+use Rattle.meaning.specs.Run.{Call, Promise, refusal, accepted}
 use Rattle.meaning.specs.PromiseLaws.{kept-refusal, kept-done}
 use Rattle.meaning.specs.declared.Report.{Report}
 use Rattle.tables.specs.declared.ChannelRecord.{ChannelRecord}
@@ -29,7 +29,7 @@ module _ (b br fr cr : List ℕ) (c : ℕ) (bytes : List ℕ) (d : Writing) (dec
   abbrev t : Tables
   t = tables b br fr cr
 
-  refuses : (why : Report) → d ≡ No why → Promise (Call.Write c bytes) t [] (record { answer = refusal why; buffer = []; tables = t })
+  refuses : (why : Report) → d ≡ No why → Promise (Call.Write c bytes) t [] (record { answer = refusal 1 why; buffer = []; tables = t })
   refuses why e = kept-refusal (Call.Write c bytes) t [] why (ap (planned t c bytes) (sym e) ∙ decided .means bytes refl)
 
   module _ (y : ChannelRecord) (e : d ≡ On y) where
@@ -45,7 +45,7 @@ module _ (b br fr cr : List ℕ) (c : ℕ) (bytes : List ℕ) (d : Writing) (dec
         ≡ put (tables b br fr channels) (file (y .file .0) (withWrite (storeOf (tables b br fr channels) .file (y .file .0)) (y .position) bytes)))
         → (next : ChannelRecord) → next ≡ movedBy y (length bytes)
         → (records : List ℕ) → records ≡ withRecord 8 cr c (channelRecord (next .file .0) (next .position))
-        → Promise (Call.Write c bytes) t [] (record { answer = numbers (length bytes ∷ []); buffer = []; tables = tables b′ br′ fr′ records })
+        → Promise (Call.Write c bytes) t [] (record { answer = accepted (length bytes ∷ []); buffer = []; tables = tables b′ br′ fr′ records })
     writes b′ br′ fr′ wrote next moved records p =
         let change = file (y .file .0) (ordinary (written t y bytes)) in
         let position = y .position + length bytes in

@@ -35,14 +35,14 @@ returns : tie.Need-returns
 returns c =
     let w = c .before .before .before .before .before .before in
     let p = w .before .before .before .before in
-    numbers-line _ _ _ _ _ _ _ _ _ _ _ (ap counted (p .before .before .before .answer .given .1)) (p .put-one .ensures .lays) (w .put-hex-word .ensures)
+    numbers-line _ _ _ _ _ _ _ _ _ _ _ _ (ap counted (p .before .before .before .answer .given .1)) (p .put-one .ensures .lays) (w .put-hex-word .ensures)
     (c .before .before .put-byte .ensures)
 
 same-length-2 : tie.Need-same-length-2
 same-length-2 c = search needs
 
 returns-2 : tie.Need-returns-2
-returns-2 c = refusal-line _ _ _ _ _ _ _ (ap counted (c .before .before .before .before .before .answer2 .given .1)) (c .before .before .print-refusal .ensures)
+returns-2 c = refusal-line _ _ _ _ _ _ _ _ (ap counted (c .before .before .before .before .before .answer2 .given .1)) (c .before .before .print-refusal .ensures)
 
 pub print-counted-spec : {M : Type 1} → statement M
 print-counted-spec =

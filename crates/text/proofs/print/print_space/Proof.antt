@@ -29,7 +29,7 @@ same-length-2 : tie.Need-same-length-2
 same-length-2 c = search needs
 
 returns-2 : tie.Need-returns-2
-returns-2 c = refusal-line _ _ [] _ _ _ _ (ap spaceOf (c .before .before .before .before .before .answer2 .given .1)) (c .before .before .print-refusal .ensures)
+returns-2 c = refusal-line _ _ _ [] _ _ _ _ (ap spaceOf (c .before .before .before .before .before .answer2 .given .1)) (c .before .before .print-refusal .ensures)
 
 pub print-space-spec : {M : Type 1} → statement M
 print-space-spec =

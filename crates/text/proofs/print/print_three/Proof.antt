@@ -2,7 +2,7 @@
 use Prim.Native.Nat.{ℕ}
 use mathlib.Core.Path.{_≡_}
 use mathlib.Core.List.{List, [], _∷_, _++_, append-assoc, append-nil}
-use Rattle.meaning.specs.Run.{numbers}
+use Rattle.meaning.specs.Run.{accepted}
 use Rattle.text.specs.Line.{space}
 use Rattle.text.specs.Print.{decimal, spaced, printed, newline}
 use Rattle.text.specs.Lays.{Lays, LaysAtMost}
@@ -14,10 +14,10 @@ use Rattle.text.proofs.print.print_three.Tie as tie
 
 three-numbers : (out one two three after : List ℕ) (at second third end next a b c : ℕ) → LaysAtMost 12 out at (decimal 0 ++ spaced (a ∷ [])) one second
     → LaysAtMost 11 one second (space ∷ decimal b) two third → LaysAtMost 11 two third (space ∷ decimal c) three end
-    → Lays three end (newline ∷ []) after next → Lays out at (printed (numbers (a ∷ b ∷ c ∷ [])) [] ++ newline ∷ []) after next
+    → Lays three end (newline ∷ []) after next → Lays out at (printed (accepted (a ∷ b ∷ c ∷ [])) [] ++ newline ∷ []) after next
 unfolding spaced
 three-numbers out one two three after at second third end next a b c p q r l =
-    numbers-alone (a ∷ b ∷ c ∷ []) out three after at end next
+    numbers-alone a (b ∷ c ∷ []) out three after at end next
     (lays-as (decimal 0 ++ spaced (a ∷ []) ++ (space ∷ decimal b) ++ (space ∷ decimal c)) (decimal 0 ++ spaced (a ∷ b ∷ c ∷ [])) out three at end in-a-row
     (lays-both (decimal 0 ++ spaced (a ∷ []) ++ (space ∷ decimal b)) (space ∷ decimal c) out two three at third end
     (lays-both (decimal 0 ++ spaced (a ∷ [])) (space ∷ decimal b) out one two at second third (p .lays) (q .lays)) (r .lays)))
