@@ -33,7 +33,7 @@ module _ (call : Call) (t : Tables) (buffer : List ℕ) (o : Outcome) (kept : Ke
     where
       go : (r : Result) → meaning call (storeOf t) ≡ r → (numbers : List ℕ) × (o .answer ≡ numberOf (reportOf r) ∷ numbers)
       go (refused why) is = (replicate (width call) 0, kept .1 .answers ∙ refused-row call t why (result-is call t buffer o kept ∙ is) .1)
-      go (done ns bytes changes) is = (ns, kept .1 .answers ∙ ap (answerOf call) (result-is call t buffer o kept ∙ is))
+      go (done ns bytes changes) is = (ns, kept .1 .answers ∙ ap (answerOf (width call)) (result-is call t buffer o kept ∙ is))
 
   pub head-report : (why : Report) → ((numbers : List ℕ) × (o .answer ≡ numberOf why ∷ numbers)) ↔ (reportOf (meaning call (storeOf t)) ≡ why)
   head-report why = (

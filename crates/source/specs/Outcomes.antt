@@ -129,7 +129,7 @@ module _ (call : Call) (t : Tables) (buffer : List ℕ) (o : Outcome) (kept : Ke
         let zero-number : numberOf why ≡ 0 = cc in
         absurd (true≢false (sym (eq-eqb (numberOf why) 0 zero-number) ∙ refuses))
     by-result (done ns bytes changes) is =
-        let answer : accepted numbers ≡ accepted ns = sym ok ∙ kept .1 .answers ∙ ap (answerOf call) (result-is ∙ is) in
+        let answer : accepted numbers ≡ accepted ns = sym ok ∙ kept .1 .answers ∙ ap (answerOf (width call)) (result-is ∙ is) in
         let same : numbers ≡ ns = cc in
         let filled : o .buffer ≡ over buffer bytes = kept .1 .fills ∙ ap (λ (r : Result). over buffer (bytesOf r)) (result-is ∙ is) in
         let left : storeOf (o .tables) ≡ afterAll s changes = store-left ∙ ap (λ (r : Result). afterAll s (changesOf r)) is in
@@ -156,6 +156,6 @@ refused-unaltered call t buffer o p why n numbers e = go (resultOf call t) refl
         let stay : o .tables ≡ t = p .leaves ∙ ap (λ (r : Result). putAll t (changesOf r)) is in
         (rest, p .fills ∙ ap (λ (r : Result). over buffer (bytesOf r)) is, stay, ap stateOf stay)
     go (done ns bytes changes) is =
-        let answer : numberOf why ∷ numbers ≡ accepted ns = sym e ∙ p .answers ∙ ap (answerOf call) is in
+        let answer : numberOf why ∷ numbers ≡ accepted ns = sym e ∙ p .answers ∙ ap (answerOf (width call)) is in
         let number : numberOf why ≡ numberOf Ok = cc in
         absurd (n (same-report why Ok number))
