@@ -21,7 +21,7 @@ use Rattle.source.specs.Filing.{State, readFS, openFS, CidErr, NameErr, 
 use Rattle.source.specs.View.{view}
 use Rattle.source.specs.Accepted.{Ready}
 
--- the source's report!
+-- the source's report!; success is report! = Ok
 unfoldable pub reportOf : Result → Report
 reportOf (refused why) = why
 reportOf (done numbers bytes changes) = Ok
@@ -30,7 +30,7 @@ reportOf (done numbers bytes changes) = Ok
 abbrev pub leftBy : Store → Result → Store
 leftBy s r = afterAll s (changesOf r)
 
--- report! ≠ Ok ⇒ θFS′ = θFS
+-- ΔFS with a report: report! ≠ Ok ⇒ θFS′ = θFS
 abbrev pub UnalteredHolds : Type 0
 UnalteredHolds = (s : Store) (call : Call) → reportOf (meaning call s) ≢ Ok → leftBy s (meaning call s) ≡ s
 
