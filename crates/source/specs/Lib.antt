@@ -13,7 +13,7 @@
 -- 4.3.11   dirformat, RootFid, dirstored                    Naming; of our directories: View
 -- 4.3.12   FS, usedfids, direncode, openFS, readFS,
 --          writeFS, closeFS, destroyFS                      Filing
---          createFS, unlinkFS                               Filing up to direncode, Departures with it
+--          createFS, unlinkFS                               Filing up to direncode, Departures with it; where nothing is freed: Itself
 -- 4.3.13   destroyFS, honest                                Filing; equivalent to the first, and honest: Claims
 -- 4.3.14   composition; linkNS, moveNS; linkFS, moveFS      Filing; Naming; Departures; what of moveFS holds: Moved of Departures
 -- 4.3.15   REPORT, CidErr, NameErr, ChanErr                 Filing, with 01's reports; ΔFS with report!, success, read, open: ErrorStatements
@@ -59,6 +59,7 @@ pub mod Linking
 pub mod Emptying
 pub mod Creating
 pub mod Claims
+pub mod Itself
 pub mod FreeingLaws
 pub mod MoveSteps
 pub mod Moved
