@@ -76,8 +76,11 @@ pub mod DirectoryErrors
 pub mod OutcomeStatements
 pub mod Outcomes
 pub mod OutcomeErrors
+pub mod ByteRows
 pub mod Limits
 pub mod LimitProofs
+pub mod ByteChanges
+pub mod ByteCalls
 pub mod LimitErrors
 pub mod LimitCauses
 pub mod LimitErrorProofs

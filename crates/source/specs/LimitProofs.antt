@@ -6,12 +6,12 @@ use mathlib.Core.List.{List, [], _∷_}
 use mathlib.Core.Bool.{true, false, true≢false}
 use mathlib.Core.Option.{some}
 use native.Mathlib.Omega.{arith}
-use lib.ListN.{length, getD, List·getD-eq-default, length-take}
+use lib.ListN.{length, getD, length-take}
 use lib.Seq.{getD-take}
 use borrow.Author.Tests.{le-leb}
 use Rattle.records.specs.Rows.{sum}
 use Rattle.records.specs.RowLaws.{sum-cong}
-use Rattle.records.specs.Tests.{lt-or-ge, same-or-not, tested}
+use Rattle.records.specs.Tests.{same-or-not, tested}
 use Rattle.records.specs.ListLaws.{length-listOf, getD-listOf}
 use Rattle.records.specs.Numbers.{one}
 use Rattle.meaning.specs.File.{needed}
@@ -30,30 +30,23 @@ use Rattle.soundness.specs.Well.{Well}
 use Rattle.soundness.specs.WellFacts.{file-size, free-file, open-channel}
 use Rattle.keeping.specs.Proofs.{sound-kept}
 use Rattle.source.specs.Sets.{_∈dom_, _··_}
-use Rattle.source.specs.Files.{BYTE, SeqBYTE}
 use Rattle.source.specs.Channels.{CHAN}
 use Rattle.source.specs.Naming.{NAME}
 use Rattle.source.specs.View.{view}
 use Rattle.source.specs.ViewLaws.{no-more, numbered-not, file-used, file-is, channel-open, channel-is, open-below}
 use Rattle.source.specs.Invariants.{sound-ready, invariants-hold}
 use Rattle.source.specs.NameSteps.{last-syllable}
+use Rattle.source.specs.ByteRows.{Bytes, of-seq, to-seq, no-bytes}
 use Rattle.source.specs.Outcomes.{store-left}
 use Rattle.source.specs.Limits.{taking, represented, LimitsHold, SameLimits, LimitsKept}
 
 -- ---- 4.3.1
 
--- past its end a table reads as 0
-byte-at : (l : List ℕ) → SeqBYTE l → (i : ℕ) → BYTE (getD l i 0) ≡ true
-byte-at l all i =
-    ⊎-elim
-    (λ (h : i < length l). all i h)
-    (λ (h : length l ≤ i). rw (List·getD-eq-default l 0 h))
-    (lt-or-ge i (length l))
-
-file-bytes : (t : Tables) → SeqBYTE (t .blocks) → (f : ℕ) → SeqBYTE (fileOf t f .bytes)
+pub file-bytes : (t : Tables) → Bytes (t .blocks) → (f : ℕ) → Bytes (fileOf t f .bytes)
 unfolding fileOf byteOf one
-file-bytes t all zero i h = absurd (omega arith)
-file-bytes t all (suc r) i h = rw (getD-listOf _ (λ k. byteOf t (suc r) k) i 0 (rw length-listOf at h)) (byte-at (t .blocks) all _)
+file-bytes t all zero = no-bytes
+file-bytes t all (suc r) =
+    of-seq _ (λ i h. rw (getD-listOf _ (λ k. byteOf t (suc r) k) i 0 (rw length-listOf at h)) (all .at _))
 
 -- ---- 4.5.3
 
@@ -109,7 +102,7 @@ limits-hold t e =
     let L = sound-layout t e in
     let x = invariants-hold s (sound-ready t e) in
     record {
-      bytes = λ all fid file is. rw (file-is s fid file is) at (file-bytes t all fid);
+      bytes = λ all fid file is. rw (file-is s fid file is) at (to-seq (s .file fid .bytes) (file-bytes t (of-seq (t .blocks) all) fid));
       file-size = λ fid file is.
           let u = used s fid (file-used s fid (file, is)) in
           rw (file-is s fid file is) at (file-size s w fid (u .some) (u .within));

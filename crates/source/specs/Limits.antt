@@ -14,7 +14,7 @@ use Rattle.meaning.specs.Name.{isSyllable, mostSyllables}
 use Rattle.meaning.specs.Store.{Store}
 use Rattle.meaning.specs.Tables.{Tables, storeOf}
 use Rattle.meaning.specs.Sound.{sound}
-use Rattle.meaning.specs.Run.{Call, Outcome}
+use Rattle.meaning.specs.Run.{Call, Prepare, Room, Create, Open, Unlink, Mkdir, Rmdir, Link, Move, Ls, Close, Fstat, Read, Write, Seek, Outcome}
 use Rattle.source.specs.Sets.{ℙ, _∈dom_, _··_}
 use Rattle.source.specs.Files.{SeqBYTE, FILE, FID, FSTORE}
 use Rattle.source.specs.Channels.{CHAN, CID}
@@ -91,3 +91,28 @@ pub record SameLimits (s s′ : Store) : Type 0 where
 
 abbrev pub LimitsKept : Type 0
 LimitsKept = (call : Call) (t : Tables) (buffer : List ℕ) (o : Outcome) → Kept call t buffer o → Limits (o .tables) × SameLimits (storeOf t) (storeOf (o .tables))
+
+-- ---- 4.3.1 once more: what is read, and every block afterwards, are bytes where the blocks, the lent buffer and what is given were
+
+-- data?, and names that are written into a directory, are sequences of bytes
+unfoldable pub Given : Call → Type 0
+Given (Write c bytes) = SeqBYTE bytes
+Given (Create bytes) = SeqBYTE bytes
+Given (Mkdir bytes) = SeqBYTE bytes
+Given (Link old new) = SeqBYTE new
+Given (Move old new) = SeqBYTE new
+Given (Open bytes) = Unit {0}
+Given (Unlink bytes) = Unit {0}
+Given (Rmdir bytes) = Unit {0}
+Given (Ls bytes size) = Unit {0}
+Given (Read c count) = Unit {0}
+Given (Seek c mode n) = Unit {0}
+Given (Fstat c) = Unit {0}
+Given (Close c) = Unit {0}
+Given Prepare = Unit {0}
+Given Room = Unit {0}
+
+abbrev pub BytesKept : Type 0
+BytesKept =
+    (call : Call) (t : Tables) (buffer : List ℕ) (o : Outcome) → Kept call t buffer o → Given call → SeqBYTE (t .blocks) → SeqBYTE buffer
+    → SeqBYTE (o .tables .blocks) × SeqBYTE (o .buffer)
