@@ -7,7 +7,7 @@
 -- 4.3.5    hiding                                           what is hidden is a field; readSS simplified: Claims
 -- 4.3.6    CHAN, ΔCHAN, readCHAN, writeCHAN, seekCHAN       Channels
 -- 4.3.7    CS, openCS, closeCS                              Channels; ΔCS says nothing: a schema has both states
--- 4.3.8    AS, ΔAS, ΦAS, readAS, writeAS, seekAS, fstat     Channels
+-- 4.3.8    AS, ΔAS, ΦAS, readAS, writeAS, seekAS, fstat     Channels; as the source expands them: Expansions
 -- 4.3.9    NS0, createNS, lookupNS, destroyNS               Naming; ΞNS0 is one equation of lookupNS
 -- 4.3.10   SYL, NAME, NS, lsNS                              Naming; which syllables there are: Limits
 -- 4.3.11   dirformat, RootFid, dirstored                    Naming; of our directories: View
@@ -59,6 +59,7 @@ pub mod Linking
 pub mod Emptying
 pub mod Creating
 pub mod Claims
+pub mod Expansions
 pub mod Itself
 pub mod FreeingLaws
 pub mod MoveSteps
