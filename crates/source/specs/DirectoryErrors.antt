@@ -8,11 +8,12 @@ use mathlib.Core.Option.{some}
 use lib.Dec.{eqb}
 use borrow.Author.Tests.{eqb-true, eq-eqb, ne-eqb, not-false}
 use Rattle.records.specs.Tests.{tested}
+use Rattle.meaning.specs.Name.{syllables}
 use Rattle.meaning.specs.Store.{Store, File, Change, isDirectory, isOpen, named}
 use Rattle.meaning.specs.Result.{Result, done, onChannel, missing, nowhere}
 use Rattle.meaning.specs.ChannelCalls.{write}
 use Rattle.meaning.specs.NameCalls.{create, link, unlink, move, ifNamingFits}
-use Rattle.meaning.specs.Run.{numberOf}
+use Rattle.meaning.specs.Run.{meaning, numberOf}
 use Rattle.meaning.specs.declared.Report.the-variants.{Ok, NoSuchCid, NoSuchName, NoFreeCids, IsDirectory, NoFreeFids, NoRoom, TooBig}
 use Rattle.soundness.specs.Use.{used, directory-kind, of-directory}
 use Rattle.source.specs.Naming.{NAME}
@@ -23,7 +24,7 @@ use Rattle.source.specs.Accepted.{Ready}
 use Rattle.source.specs.Invariants.{directory-there}
 use Rattle.source.specs.Tree.{well-tree}
 use Rattle.source.specs.HeldChannel.{its-use}
-use Rattle.source.specs.ErrorStatements.{reportOf, HoldsDirectory, DirectoryHolds, EitherDirectory, TwoDirectoriesHolds, DirectoryErrs}
+use Rattle.source.specs.ErrorStatements.{reportOf, OnStores, OnReady, HoldsDirectory, EitherDirectory, DirectoryErrs}
 use Rattle.source.specs.Reports.{other-report, Never, never-done, never-unless, never-fits, reported-first, reported-later, reported-twice, reported-named, in-second, in-right}
 use Rattle.source.specs.Causes.{name-there}
 use Rattle.source.specs.NameErrors.{move-reports}
@@ -55,14 +56,14 @@ naming-fits-directory s name dir r h = never-fits IsDirectory s _ _ r (other-rep
 
 -- ---- the calls
 
-unlink-directory : DirectoryHolds (λ s bytes. unlink bytes s)
+unlink-directory : (s : Store) (bytes : List ℕ) (name : NAME) → syllables bytes ≡ some name → (reportOf (unlink bytes s) ≡ IsDirectory) ↔ (view s .dnames name ≡ true)
 unfolding unlink numberOf
 unlink-directory s bytes name e =
     reported-named IsDirectory _ name _ _ e
     (Iff·trans (reported-later IsDirectory (missing s name) NoSuchName _ (other-report NoSuchName IsDirectory refl))
     (Iff·trans (in-second (reported-first IsDirectory (isDirectory s (named s name)) _ (done-directory _ _ _))) (directory-named s name)))
 
-create-directory : DirectoryHolds (λ s bytes. create bytes s)
+create-directory : (s : Store) (bytes : List ℕ) (name : NAME) → syllables bytes ≡ some name → (reportOf (create bytes s) ≡ IsDirectory) ↔ (view s .dnames name ≡ true)
 unfolding create numberOf
 create-directory s bytes name e =
     reported-named IsDirectory _ name _ _ e
@@ -86,7 +87,8 @@ either-directory s from to = (
       h,
 )
 
-link-directory : TwoDirectoriesHolds (λ s old new. link old new s)
+link-directory : (s : Store) → Ready s → (old new : List ℕ) (from to : NAME) → syllables old ≡ some from → syllables new ≡ some to
+    → (reportOf (link old new s) ≡ IsDirectory) ↔ EitherDirectory (view s) from to
 unfolding link numberOf
 link-directory s ready old new from to e h =
     reported-named IsDirectory _ from _ _ e
@@ -98,7 +100,8 @@ link-directory s ready old new from to e h =
     (in-second (reported-first IsDirectory (isDirectory s (named s to)) _ (naming-fits-directory s to _ _ (done-directory _ _ _))))))))
     (either-directory s from to))))
 
-move-directory : TwoDirectoriesHolds (λ s old new. move old new s)
+move-directory : (s : Store) → Ready s → (old new : List ℕ) (from to : NAME) → syllables old ≡ some from → syllables new ≡ some to
+    → (reportOf (move old new s) ≡ IsDirectory) ↔ EitherDirectory (view s) from to
 unfolding numberOf
 move-directory s ready old new from to e h =
     Iff·trans (move-reports s ready old new IsDirectory (other-report Ok IsDirectory refl)) (link-directory s ready old new from to e h)
@@ -139,6 +142,13 @@ write-directory s ready c bytes =
     (never-fits IsDirectory s _ _ _ (other-report TooBig IsDirectory refl) (other-report NoRoom IsDirectory refl) (done-directory _ _ _))))
     (holds-directory s ready c))
 
-pub directory-errs : DirectoryErrs
+pub directory-errs : DirectoryErrs OnStores OnReady
+unfolding meaning
 directory-errs =
-    record { of-write = write-directory; of-create = create-directory; of-unlink = unlink-directory; of-link = link-directory; of-move = move-directory }
+    record {
+      of-write = λ c bytes s ready. write-directory s ready c bytes;
+      of-create = λ bytes name e s. create-directory s bytes name e;
+      of-unlink = λ bytes name e s. unlink-directory s bytes name e;
+      of-link = λ old new from to e h s ready. link-directory s ready old new from to e h;
+      of-move = λ old new from to e h s ready. move-directory s ready old new from to e h;
+    }

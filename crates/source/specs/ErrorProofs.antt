@@ -11,7 +11,7 @@ use Rattle.meaning.specs.Run.{meaning, changesOf, numberOf}
 use Rattle.meaning.specs.declared.Report.the-variants.{Ok, NoSuchCid, IsDirectory, NoRoom, TooBig, BadSeek}
 use Rattle.source.specs.Sets.{_∉dom_}
 use Rattle.source.specs.View.{view}
-use Rattle.source.specs.ErrorStatements.{reportOf, leftBy, UnalteredHolds, CidErrs}
+use Rattle.source.specs.ErrorStatements.{reportOf, leftBy, UnalteredHolds, OnStores, CidErrs}
 use Rattle.source.specs.Reports.{other-report, Never, never-done, never-unless, never-fits, reported-first}
 use Rattle.source.specs.Causes.{not-open}
 
@@ -35,15 +35,15 @@ done-cid : (numbers bytes : List ℕ) (changes : List Change) → Never NoSuchCi
 unfolding numberOf
 done-cid = never-done NoSuchCid (other-report Ok NoSuchCid refl)
 
-pub cid-errs : CidErrs
-unfolding close read write seek fstat numberOf
+pub cid-errs : CidErrs OnStores
+unfolding meaning close read write seek fstat numberOf
 cid-errs =
     record {
-      of-close = λ s c. on-channel s c _ (done-cid _ _ _);
-      of-read = λ count s c. on-channel s c _ (done-cid _ _ _);
-      of-write = λ bytes s c. on-channel s c _
+      of-close = λ c s. on-channel s c _ (done-cid _ _ _);
+      of-read = λ c count s. on-channel s c _ (done-cid _ _ _);
+      of-write = λ c bytes s. on-channel s c _
           (never-unless NoSuchCid _ IsDirectory _ (other-report IsDirectory NoSuchCid refl)
           (never-fits NoSuchCid s _ _ _ (other-report TooBig NoSuchCid refl) (other-report NoRoom NoSuchCid refl) (done-cid _ _ _)));
-      of-seek = λ mode n s c. on-channel s c _ (never-unless NoSuchCid _ BadSeek _ (other-report BadSeek NoSuchCid refl) (done-cid _ _ _));
-      of-fstat = λ s c. on-channel s c _ (done-cid _ _ _);
+      of-seek = λ c mode n s. on-channel s c _ (never-unless NoSuchCid _ BadSeek _ (other-report BadSeek NoSuchCid refl) (done-cid _ _ _));
+      of-fstat = λ c s. on-channel s c _ (done-cid _ _ _);
     }

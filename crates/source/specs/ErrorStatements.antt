@@ -9,9 +9,9 @@ use mathlib.Core.Option.{some}
 use Rattle.meaning.specs.Name.{syllables}
 use Rattle.meaning.specs.Store.{Store, afterAll, front}
 use Rattle.meaning.specs.Result.{Result, refused, done}
-use Rattle.meaning.specs.ChannelCalls.{close, read, write, seek, fstat}
-use Rattle.meaning.specs.NameCalls.{create, open′, link, unlink, move, ls}
-use Rattle.meaning.specs.Run.{Call, meaning, bytesOf, changesOf}
+use Rattle.meaning.specs.ChannelCalls.{read}
+use Rattle.meaning.specs.NameCalls.{open′}
+use Rattle.meaning.specs.Run.{Call, Create, Open, Unlink, Link, Move, Ls, Close, Fstat, Read, Write, Seek, meaning, bytesOf, changesOf}
 use Rattle.meaning.specs.declared.Report.{Report}
 use Rattle.meaning.specs.declared.Report.the-variants.{Ok, NoSuchCid, NoSuchName, NoFreeCids, IsDirectory}
 use Rattle.source.specs.Sets.{_∈dom_, _∉dom_}
@@ -21,7 +21,7 @@ use Rattle.source.specs.Filing.{State, readFS, openFS, CidErr, NameErr, 
 use Rattle.source.specs.View.{view}
 use Rattle.source.specs.Accepted.{Ready}
 
--- the source's report!
+-- the source's report!; success is report! = Ok
 unfoldable pub reportOf : Result → Report
 reportOf (refused why) = why
 reportOf (done numbers bytes changes) = Ok
@@ -30,26 +30,32 @@ reportOf (done numbers bytes changes) = Ok
 abbrev pub leftBy : Store → Result → Store
 leftBy s r = afterAll s (changesOf r)
 
--- report! ≠ Ok ⇒ θFS′ = θFS
+-- ΔFS with a report: report! ≠ Ok ⇒ θFS′ = θFS
 abbrev pub UnalteredHolds : Type 0
 UnalteredHolds = (s : Store) (call : Call) → reportOf (meaning call s) ≢ Ok → leftBy s (meaning call s) ≡ s
 
+-- ---- a cause is told by a report: the call gives the report exactly where the cause holds
+
+-- of what a call gives on any store, and on a store that calls take; of outcomes in OutcomeStatements
+abbrev pub OnStores : Call → Report → (Store → Type 0) → Type 0
+OnStores call why cause = (s : Store) → (reportOf (meaning call s) ≡ why) ↔ cause s
+
+abbrev pub OnReady : Call → Report → (Store → Type 0) → Type 0
+OnReady call why cause = (s : Store) → Ready s → (reportOf (meaning call s) ≡ why) ↔ cause s
+
 -- ---- NoSuchCid: close, read, write, seek and fstat list it first
 
-abbrev pub CidErrHolds : (Store → ℕ → Result) → Type 0
-CidErrHolds call = (s : Store) (c : ℕ) → (reportOf (call s c) ≡ NoSuchCid) ↔ (c ∉dom view s .cstore)
+abbrev pub NoChannel : ℕ → Store → Type 0
+NoChannel c s = c ∉dom view s .cstore
 
-pub record CidErrs : Type 0 where
-  pub of-close : CidErrHolds (λ s c. close c s)
-  pub of-read : (count : ℕ) → CidErrHolds (λ s c. read c count s)
-  pub of-write : (bytes : List ℕ) → CidErrHolds (λ s c. write c bytes s)
-  pub of-seek : (mode n : ℕ) → CidErrHolds (λ s c. seek c mode n s)
-  pub of-fstat : CidErrHolds (λ s c. fstat c s)
+pub record CidErrs (Told : Call → Report → (Store → Type 0) → Type 0) : Type 0 where
+  pub of-close : (c : ℕ) → Told (Close c) NoSuchCid (NoChannel c)
+  pub of-read : (c count : ℕ) → Told (Read c count) NoSuchCid (NoChannel c)
+  pub of-write : (c : ℕ) (bytes : List ℕ) → Told (Write c bytes) NoSuchCid (NoChannel c)
+  pub of-seek : (c mode n : ℕ) → Told (Seek c mode n) NoSuchCid (NoChannel c)
+  pub of-fstat : (c : ℕ) → Told (Fstat c) NoSuchCid (NoChannel c)
 
 -- ---- NoSuchName: the name must stand for a file; a name that is given, its directory
-
-abbrev pub NameErrHolds : (Store → List ℕ → Result) → (State → NAME → Type 0) → Type 0
-NameErrHolds call cause = (s : Store) (bytes : List ℕ) (name : NAME) → syllables bytes ≡ some name → (reportOf (call s bytes) ≡ NoSuchName) ↔ cause (view s) name
 
 abbrev pub Missing : State → NAME → Type 0
 Missing x name = name ∉dom x .nstore
@@ -62,29 +68,25 @@ Nowhere x name = (name ∉dom x .nstore) × (x .dnames (front name) ≡ false)
 abbrev pub NoLink : State → NAME → NAME → Type 0
 NoLink x oldname newname = Missing x oldname ⊎ ((oldname ∈dom x .nstore) × (x .dnames oldname ≡ false) × Nowhere x newname)
 
-abbrev pub TwoNamesHolds : (Store → List ℕ → List ℕ → Result) → Type 0
-TwoNamesHolds call =
-    (s : Store) → Ready s → (old new : List ℕ) (oldname newname : NAME) → syllables old ≡ some oldname → syllables new ≡ some newname
-    → (reportOf (call s old new) ≡ NoSuchName) ↔ NoLink (view s) oldname newname
-
-pub record NameErrs : Type 0 where
-  pub of-open : NameErrHolds (λ s bytes. open′ bytes s) Missing
-  pub of-unlink : NameErrHolds (λ s bytes. unlink bytes s) Missing
-  pub of-ls : (size : ℕ) → NameErrHolds (λ s bytes. ls bytes size s) Missing
-  pub of-create : NameErrHolds (λ s bytes. create bytes s) Nowhere
-  pub of-link : TwoNamesHolds (λ s old new. link old new s)
-  pub of-move : TwoNamesHolds (λ s old new. move old new s)
+pub record NameErrs (Told Told′ : Call → Report → (Store → Type 0) → Type 0) : Type 0 where
+  pub of-open : (bytes : List ℕ) (name : NAME) → syllables bytes ≡ some name → Told (Open bytes) NoSuchName (λ s. Missing (view s) name)
+  pub of-unlink : (bytes : List ℕ) (name : NAME) → syllables bytes ≡ some name → Told (Unlink bytes) NoSuchName (λ s. Missing (view s) name)
+  pub of-ls : (bytes : List ℕ) (name : NAME) → syllables bytes ≡ some name → (size : ℕ) → Told (Ls bytes size) NoSuchName (λ s. Missing (view s) name)
+  pub of-create : (bytes : List ℕ) (name : NAME) → syllables bytes ≡ some name → Told (Create bytes) NoSuchName (λ s. Nowhere (view s) name)
+  pub of-link : (old new : List ℕ) (oldname newname : NAME) → syllables old ≡ some oldname → syllables new ≡ some newname
+      → Told′ (Link old new) NoSuchName (λ s. NoLink (view s) oldname newname)
+  pub of-move : (old new : List ℕ) (oldname newname : NAME) → syllables old ≡ some oldname → syllables new ≡ some newname
+      → Told′ (Move old new) NoSuchName (λ s. NoLink (view s) oldname newname)
 
 -- ---- NoFreeCids: all channels are open
 
 abbrev pub NoneFree : Store → Type 0
 NoneFree s = (c : ℕ) → c < s .channelCount → c ∈dom view s .cstore
 
-pub record ChanErrs : Type 0 where
-  pub of-open : (s : Store) (bytes : List ℕ) (name : NAME) → syllables bytes ≡ some name
-      → (reportOf (open′ bytes s) ≡ NoFreeCids) ↔ ((name ∈dom view s .nstore) × NoneFree s)
-  pub of-create : (s : Store) (bytes : List ℕ) (name : NAME) → syllables bytes ≡ some name
-      → (reportOf (create bytes s) ≡ NoFreeCids) ↔ ((Nowhere (view s) name → ⊥) × (view s .dnames name ≡ false) × NoneFree s)
+pub record ChanErrs (Told : Call → Report → (Store → Type 0) → Type 0) : Type 0 where
+  pub of-open : (bytes : List ℕ) (name : NAME) → syllables bytes ≡ some name → Told (Open bytes) NoFreeCids (λ s. (name ∈dom view s .nstore) × NoneFree s)
+  pub of-create : (bytes : List ℕ) (name : NAME) → syllables bytes ≡ some name
+      → Told (Create bytes) NoFreeCids (λ s. (Nowhere (view s) name → ⊥) × (view s .dnames name ≡ false) × NoneFree s)
 
 -- ---- IsDirectory, a departure: create, write, link, unlink and move refuse directories
 
@@ -100,24 +102,18 @@ pub record HoldsDirectory (x : State) (c : ℕ) : Type 0 where
   pub is : x .cstore c ≡ some chan
   pub of : NamesDirectory x (chan .fid)
 
-abbrev pub DirectoryHolds : (Store → List ℕ → Result) → Type 0
-DirectoryHolds call = (s : Store) (bytes : List ℕ) (name : NAME) → syllables bytes ≡ some name → (reportOf (call s bytes) ≡ IsDirectory) ↔ (view s .dnames name ≡ true)
-
 -- the old name is a directory's; or it is an ordinary file's, and the new one a directory's
 abbrev pub EitherDirectory : State → NAME → NAME → Type 0
 EitherDirectory x oldname newname = (x .dnames oldname ≡ true) ⊎ ((oldname ∈dom x .nstore) × (x .dnames oldname ≡ false) × (x .dnames newname ≡ true))
 
-abbrev pub TwoDirectoriesHolds : (Store → List ℕ → List ℕ → Result) → Type 0
-TwoDirectoriesHolds call =
-    (s : Store) → Ready s → (old new : List ℕ) (oldname newname : NAME) → syllables old ≡ some oldname → syllables new ≡ some newname
-    → (reportOf (call s old new) ≡ IsDirectory) ↔ EitherDirectory (view s) oldname newname
-
-pub record DirectoryErrs : Type 0 where
-  pub of-write : (s : Store) → Ready s → (c : ℕ) (bytes : List ℕ) → (reportOf (write c bytes s) ≡ IsDirectory) ↔ HoldsDirectory (view s) c
-  pub of-create : DirectoryHolds (λ s bytes. create bytes s)
-  pub of-unlink : DirectoryHolds (λ s bytes. unlink bytes s)
-  pub of-link : TwoDirectoriesHolds (λ s old new. link old new s)
-  pub of-move : TwoDirectoriesHolds (λ s old new. move old new s)
+pub record DirectoryErrs (Told Told′ : Call → Report → (Store → Type 0) → Type 0) : Type 0 where
+  pub of-write : (c : ℕ) (bytes : List ℕ) → Told′ (Write c bytes) IsDirectory (λ s. HoldsDirectory (view s) c)
+  pub of-create : (bytes : List ℕ) (name : NAME) → syllables bytes ≡ some name → Told (Create bytes) IsDirectory (λ s. view s .dnames name ≡ true)
+  pub of-unlink : (bytes : List ℕ) (name : NAME) → syllables bytes ≡ some name → Told (Unlink bytes) IsDirectory (λ s. view s .dnames name ≡ true)
+  pub of-link : (old new : List ℕ) (oldname newname : NAME) → syllables old ≡ some oldname → syllables new ≡ some newname
+      → Told′ (Link old new) IsDirectory (λ s. EitherDirectory (view s) oldname newname)
+  pub of-move : (old new : List ℕ) (oldname newname : NAME) → syllables old ≡ some oldname → syllables new ≡ some newname
+      → Told′ (Move old new) IsDirectory (λ s. EitherDirectory (view s) oldname newname)
 
 -- ---- figures 4.1 and 4.2: the operations with their errors
 

@@ -1,13 +1,23 @@
--- Files, reading and writing, file storage and framing (the source, 4.3.1 to 4.3.4).
-use Prim.Native.Nat.{ℕ, _+_, _-_}
+-- Files, reading and writing, file storage and framing (the source, 4.3.1 to 4.3.5).
+use Prim.Native.Nat.{ℕ, _+_, _-_, _<_}
 use mathlib.Core.Path.{_≡_}
 use mathlib.Core.List.{List, []}
+use mathlib.Core.Bool.{true}
 use mathlib.Core.Option.{some}
-use lib.ListN.{length}
-use Rattle.source.specs.Sets.{_⇸_, _∈dom_, _⊕_, _◁_, _⩤_, _⟼_, the, _··_, seq}
+use lib.ListN.{length, getD}
+use Rattle.source.specs.Sets.{_⇸_, ℙ, _∈dom_, _⊕_, _◁_, _⩤_, _⟼_, the, _··_, seq}
 
 infixl 9 _after_ _shift_
--- 4.3.1: a file is a sequence of bytes
+-- ---- 4.3.1
+
+abbrev pub BYTE : ℙ ℕ
+BYTE = 0 ·· 255
+
+-- seq BYTE: every element is a byte
+abbrev pub SeqBYTE : List ℕ → Type 0
+SeqBYTE l = (i : ℕ) → i < length l → BYTE (getD l i 0) ≡ true
+
+-- a file is a sequence of bytes of any length. A byte is a number here: the code has u8, and Limits says that files are made of bytes
 abbrev pub FILE : Type 0
 FILE = List ℕ
 
@@ -47,7 +57,7 @@ pub record destroySS (fstore fstore′ : FSTORE) (fid : FID) : Type 0 where
   pub exists : fid ∈dom fstore
   pub destroys : fstore′ ≡ the fid ⩤ fstore
 
--- ---- 4.3.4: framing
+-- ---- 4.3.4: framing. 4.3.5 hides file and file′: from readAS on they are fields of the schema
 
 -- fid ∈ dom fstore and file = fstore (fid) are one equation
 pub record ΦSS (fstore fstore′ : FSTORE) (fid : FID) (file file′ : FILE) : Type 0 where

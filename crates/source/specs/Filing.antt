@@ -9,7 +9,7 @@ use Rattle.meaning.specs.declared.Report.the-variants.{NoSuchCid, NoSuchName, N
 use Rattle.source.specs.Sets.{_⇸_, ℙ, _∈dom_, _∉dom_}
 use Rattle.source.specs.Files.{FILE, FID, FSTORE, createSS, destroySS}
 use Rattle.source.specs.Channels.{CHAN, CID, CSTORE, openCS, closeCS, readAS, writeAS, seekAS, fstat, seekoffset}
-use Rattle.source.specs.Naming.{SYL, NAME, NSTORE, NS, createNS, lookupNS, destroyNS, lsNS, dirstored, linkNS}
+use Rattle.source.specs.Naming.{SYL, NAME, NSTORE, NS, createNS, lookupNS, destroyNS, lsNS, dirstored, linkNS, moveNS}
 
 infixl 3 _⨾_
 -- ---- the state
@@ -117,6 +117,21 @@ pub record linkFS0 (oldname newname : NAME) (x x′ : State) : Type 0 where
   pub channels : ΞCS x x′
   pub fid : FID
   pub names : linkNS (x .nstore) (x′ .nstore) oldname newname fid
+
+-- 4.3.14: moveFS before the name store is written into the directories' files
+pub record moveFS0 (oldname newname : NAME) (x x′ : State) : Type 0 where
+  pub change : ΔFS x x′
+  pub files : ΞSS x x′
+  pub channels : ΞCS x x′
+  pub fid : FID
+  pub names : moveNS (x .nstore) (x′ .nstore) oldname newname fid
+
+-- 4.3.12, as it is first written: that the file is not in use is not said, but follows
+pub record implicitDestroyFS (fid : FID) (x x′ : State) : Type 0 where
+  pub change : ΔFS x x′
+  pub file : destroySS (x .fstore) (x′ .fstore) fid
+  pub channels : ΞCS x x′
+  pub names : ΞNS x x′
 
 -- the honest definition, 4.3.13
 pub record destroyFS (fid : FID) (x x′ : State) : Type 0 where

@@ -14,6 +14,7 @@ use Rattle.source.specs.View.{view}
 use Rattle.source.specs.StateLaws.{freeing-names, replacing-names}
 use Rattle.source.specs.Accepted.{Ready, sized, accepted-map, accepted-then}
 use Rattle.source.specs.NameStatements.{MoveHolds}
+use Rattle.source.specs.Moved.{move-is}
 use Rattle.source.specs.Unlinking.{unlink-holds}
 use Rattle.source.specs.Linking.{link-holds}
 
@@ -56,6 +57,11 @@ move-holds s ready old new oldname newname e h =
     (λ more-numbers more-none more unlinked.
     rw (after-both s changes more) (
     let t = afterAll s changes in
-    let moves : moving oldname newname (view s) (view (afterAll t more)) = (view t, linked .0, unlinked .0) in
-    (moves, unlinked .1, unlinked .2 ∙ linked .2, move-names (view s) (view (afterAll t more)) oldname newname moves)))
+    let moves : moving oldname newname (view s) (view (afterAll t more)) = (view t, linked .0, unlinked .0) in (
+      moves,
+      unlinked .1,
+      unlinked .2 ∙ linked .2,
+      move-names (view s) (view (afterAll t more)) oldname newname moves,
+      move-is (view s) (view t) (view (afterAll t more)) oldname newname (linked .0) (unlinked .0) (unlinked .2),
+    )))
     (unlink-holds (afterAll s changes) (ready-after s ready changes sure) old oldname e))

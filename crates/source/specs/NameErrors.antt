@@ -10,7 +10,7 @@ use Rattle.meaning.specs.Name.{syllables}
 use Rattle.meaning.specs.Store.{Store, File, Change, isDirectory, named}
 use Rattle.meaning.specs.Result.{Result, done, missing, nowhere, allOpen}
 use Rattle.meaning.specs.NameCalls.{create, open′, link, unlink, move, ls, ifNamingFits}
-use Rattle.meaning.specs.Run.{numberOf}
+use Rattle.meaning.specs.Run.{meaning, numberOf}
 use Rattle.meaning.specs.declared.Report.{Report}
 use Rattle.meaning.specs.declared.Report.the-variants.{Ok, NoSuchName, NoFreeCids, IsDirectory, NotDirectory, NoFreeFids, NoRoom, TooBig, OutShort}
 use Rattle.keeping.specs.Moves.{move-refused, link-refused}
@@ -18,7 +18,7 @@ use Rattle.source.specs.Sets.{_∈dom_}
 use Rattle.source.specs.Naming.{NAME}
 use Rattle.source.specs.View.{view}
 use Rattle.source.specs.Accepted.{Ready, sized}
-use Rattle.source.specs.ErrorStatements.{reportOf, Missing, Nowhere, NoLink, NoneFree, NameErrHolds, TwoNamesHolds, NameErrs, ChanErrs}
+use Rattle.source.specs.ErrorStatements.{reportOf, OnStores, OnReady, Missing, Nowhere, NoLink, NoneFree, NameErrs, ChanErrs}
 use Rattle.source.specs.Reports.{other-report, Never, never-done, never-unless, never-fits, reported-first, reported-later, reported-twice, reported-named, report-refused, refused-report, in-second, both-parts, in-right}
 use Rattle.source.specs.Causes.{name-missing, name-there, name-nowhere, name-somewhere, none-free}
 
@@ -34,19 +34,19 @@ naming-fits-name s name dir r h = never-fits NoSuchName s _ _ r (other-report To
 
 -- ---- NoSuchName
 
-pub open-missing : NameErrHolds (λ s bytes. open′ bytes s) Missing
+open-missing : (s : Store) (bytes : List ℕ) (name : NAME) → syllables bytes ≡ some name → (reportOf (open′ bytes s) ≡ NoSuchName) ↔ Missing (view s) name
 unfolding open′ numberOf
 open-missing s bytes name e =
     reported-named NoSuchName _ name _ _ e
     (Iff·trans (reported-first NoSuchName (missing s name) _ (never-unless NoSuchName _ NoFreeCids _ (other-report NoFreeCids NoSuchName refl) (done-name _ _ _))) (name-missing s name))
 
-pub unlink-missing : NameErrHolds (λ s bytes. unlink bytes s) Missing
+unlink-missing : (s : Store) (bytes : List ℕ) (name : NAME) → syllables bytes ≡ some name → (reportOf (unlink bytes s) ≡ NoSuchName) ↔ Missing (view s) name
 unfolding unlink numberOf
 unlink-missing s bytes name e =
     reported-named NoSuchName _ name _ _ e
     (Iff·trans (reported-first NoSuchName (missing s name) _ (never-unless NoSuchName _ IsDirectory _ (other-report IsDirectory NoSuchName refl) (done-name _ _ _))) (name-missing s name))
 
-pub ls-missing : (size : ℕ) → NameErrHolds (λ s bytes. ls bytes size s) Missing
+ls-missing : (size : ℕ) (s : Store) (bytes : List ℕ) (name : NAME) → syllables bytes ≡ some name → (reportOf (ls bytes size s) ≡ NoSuchName) ↔ Missing (view s) name
 unfolding ls numberOf
 ls-missing size s bytes name e =
     reported-named NoSuchName _ name _ _ e
@@ -54,7 +54,7 @@ ls-missing size s bytes name e =
     (never-unless NoSuchName _ NotDirectory _ (other-report NotDirectory NoSuchName refl)
     (never-unless NoSuchName _ OutShort _ (other-report OutShort NoSuchName refl) (done-name _ _ _)))) (name-missing s name))
 
-pub create-nowhere : NameErrHolds (λ s bytes. create bytes s) Nowhere
+create-nowhere : (s : Store) (bytes : List ℕ) (name : NAME) → syllables bytes ≡ some name → (reportOf (create bytes s) ≡ NoSuchName) ↔ Nowhere (view s) name
 unfolding create numberOf
 create-nowhere s bytes name e =
     reported-named NoSuchName _ name _ _ e
@@ -73,7 +73,8 @@ no-link s from to = (
   λ h. ⊎-elim (λ gone. inl (name-missing s from .1 gone)) (λ h. inr (name-there s from .1 (h .0), (h .1, name-nowhere s to .1 (h .2)))) h,
 )
 
-pub link-nowhere : TwoNamesHolds (λ s old new. link old new s)
+link-nowhere : (s : Store) → Ready s → (old new : List ℕ) (from to : NAME) → syllables old ≡ some from → syllables new ≡ some to
+    → (reportOf (link old new s) ≡ NoSuchName) ↔ NoLink (view s) from to
 unfolding link numberOf
 link-nowhere s ready old new from to e h =
     reported-named NoSuchName _ from _ _ e
@@ -94,20 +95,22 @@ move-reports s ready old new why other =
       λ l. refused-report why (move old new s) (link-refused s (ready .well) z old new why (report-refused why other (link old new s) l)),
     )
 
-pub move-nowhere : TwoNamesHolds (λ s old new. move old new s)
+move-nowhere : (s : Store) → Ready s → (old new : List ℕ) (from to : NAME) → syllables old ≡ some from → syllables new ≡ some to
+    → (reportOf (move old new s) ≡ NoSuchName) ↔ NoLink (view s) from to
 unfolding numberOf
 move-nowhere s ready old new from to e h =
     Iff·trans (move-reports s ready old new NoSuchName (other-report Ok NoSuchName refl)) (link-nowhere s ready old new from to e h)
 
-pub name-errs : NameErrs
+pub name-errs : NameErrs OnStores OnReady
+unfolding meaning
 name-errs =
     record {
-      of-open = open-missing;
-      of-unlink = unlink-missing;
-      of-ls = ls-missing;
-      of-create = create-nowhere;
-      of-link = link-nowhere;
-      of-move = move-nowhere;
+      of-open = λ bytes name e s. open-missing s bytes name e;
+      of-unlink = λ bytes name e s. unlink-missing s bytes name e;
+      of-ls = λ bytes name e size s. ls-missing size s bytes name e;
+      of-create = λ bytes name e s. create-nowhere s bytes name e;
+      of-link = λ old new from to e h s ready. link-nowhere s ready old new from to e h;
+      of-move = λ old new from to e h s ready. move-nowhere s ready old new from to e h;
     }
 
 -- ---- NoFreeCids
@@ -116,7 +119,7 @@ done-full : (numbers bytes : List ℕ) (changes : List Change) → Never NoFreeC
 unfolding numberOf
 done-full = never-done NoFreeCids (other-report Ok NoFreeCids refl)
 
-pub open-full : (s : Store) (bytes : List ℕ) (name : NAME) → syllables bytes ≡ some name
+open-full : (s : Store) (bytes : List ℕ) (name : NAME) → syllables bytes ≡ some name
     → (reportOf (open′ bytes s) ≡ NoFreeCids) ↔ ((name ∈dom view s .nstore) × NoneFree s)
 unfolding open′ numberOf
 open-full s bytes name e =
@@ -125,7 +128,7 @@ open-full s bytes name e =
     (reported-later NoFreeCids (missing s name) NoSuchName _ (other-report NoSuchName NoFreeCids refl))
     (both-parts (name-there s name) (Iff·trans (reported-first NoFreeCids (allOpen s) _ (done-full _ _ _)) (none-free s))))
 
-pub create-full : (s : Store) (bytes : List ℕ) (name : NAME) → syllables bytes ≡ some name
+create-full : (s : Store) (bytes : List ℕ) (name : NAME) → syllables bytes ≡ some name
     → (reportOf (create bytes s) ≡ NoFreeCids) ↔ ((Nowhere (view s) name → ⊥) × (view s .dnames name ≡ false) × NoneFree s)
 unfolding create ifNamingFits numberOf
 create-full s bytes name e =
@@ -142,5 +145,6 @@ create-full s bytes name e =
     (tested (missing s name)))) (none-free s)))))
     (λ h. (h .0, h .1 .0, h .1 .1), λ h. (h .0, (h .1, h .2)))))
 
-pub chan-errs : ChanErrs
-chan-errs = record { of-open = open-full; of-create = create-full }
+pub chan-errs : ChanErrs OnStores
+unfolding meaning
+chan-errs = record { of-open = λ bytes name e s. open-full s bytes name e; of-create = λ bytes name e s. create-full s bytes name e }

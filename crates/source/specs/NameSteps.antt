@@ -115,7 +115,7 @@ module _ (s : Store) (w : Well s) (n : NAME) (more : 0 < length n) (p : Place s 
 -- ---- name n taken
 
 -- the last syllable of a name that stands for something is one
-last-syllable : (s : Store) → Well s → (m : NAME) → 0 < length m → named s m ≢ 0 → isSyllable (last m) ≡ true
+pub last-syllable : (s : Store) → Well s → (m : NAME) → 0 < length m → named s m ≢ 0 → isSyllable (last m) ≡ true
 last-syllable s w m more there =
     let (q, q-in, q-last) = record-of s (named s m) m more refl there in
     let dir = s .file (q .d) .bytes in

@@ -67,6 +67,9 @@ module _ (s : Store) where
   pub file-used : (f : ℕ) → f ∈dom view s .fstore → inUse s f ≡ true
   file-used f (bytes, e) = picked-test (s .file f .bytes) bytes (inUse s f) e
 
+  pub file-is : (f : ℕ) (bytes : List ℕ) → view s .fstore f ≡ some bytes → s .file f .bytes ≡ bytes
+  file-is f bytes e = picked-value (s .file f .bytes) bytes (inUse s f) e
+
   pub channel-there : (c : ℕ) → isOpen s c ≡ true → view s .cstore c ≡ some (chanOf (s .channel c))
   channel-there c o = rw o
 
