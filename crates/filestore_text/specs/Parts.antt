@@ -1,0 +1,68 @@
+-- The input served part by part. A part may end anywhere, within a line too.
+use Prim.Native.Nat.{ℕ, _≤_, _<_}
+use mathlib.Core.Path.{_≡_}
+use mathlib.Core.List.{List, [], _++_}
+use mathlib.Core.Bool.{Bool, true, false}
+use lib.ListN.{length, take}
+use Rattle.meaning.specs.Tables.{Tables}
+use Rattle.text.specs.Line.{longestLine}
+use Rattle.text.specs.Print.{transcript}
+use Rattle.text.specs.Program.{completed, remaining, unended, lines, afterLines, atStart}
+use Rattle.text.specs.Gathering.{Pends, part}
+use Rattle.text.specs.declared.lines.Pending.{Pending}
+use Rattle.filestore_text.specs.declared.pieces.Step.{Step}
+use Rattle.filestore_text.specs.declared.Rest.{Rest}
+use Rattle.filestore_text.specs.declared.Piece.{Piece}
+
+-- From one moment to a later one a part of the input is served: whatever line has come before it, the lines that end in the part
+-- have changed the tables, what they print stands behind the output before it, and the line so far is what is left then.
+pub record ServesPart (bytes : List ℕ) (p : Pending) (buffer : List ℕ) (t : Tables) (printed : List ℕ)
+    (p′ : Pending) (buffer′ : List ℕ) (t′ : Tables) (printed′ : List ℕ) : Type 0 where
+  pub pends : (line : List ℕ) → Pends line p buffer → Pends (remaining line bytes) p′ buffer′
+  pub leaves : (line : List ℕ) → Pends line p buffer → t′ ≡ afterLines (completed line bytes) t
+  pub prints : (line : List ℕ) → Pends line p buffer → printed′ ≡ printed ++ transcript (completed line bytes) t
+
+-- A step through a piece: the place moves on, and the bytes up to there are served. The output is the first bytes of `out`.
+pub record Steps (p : Pending) (piece : List ℕ) (from at : ℕ) (buffer : List ℕ) (t : Tables) (out buffer′ : List ℕ) (t′ : Tables) (out′ : List ℕ) (r : Step) : Type 0 where
+  pub holds : r .line .len ≤ longestLine
+  pub moves : from < r .from
+  pub within : r .from ≤ length piece
+  pub fits : r .at ≤ length out′
+  pub serves : ServesPart (part piece from (r .from)) p buffer t (take at out) (r .line) buffer′ t′ (take (r .at) out′)
+
+-- A part served by any number of steps, each of which hands its output to write: `handed` is all of it, one step's behind another's.
+pub record Hands (bytes : List ℕ) (p : Pending) (buffer : List ℕ) (t : Tables) (p′ : Pending) (buffer′ : List ℕ) (t′ : Tables) : Type 0 where
+  pub handed : List ℕ
+  pub serves : ServesPart bytes p buffer t [] p′ buffer′ t′ handed
+
+-- A piece served up to a place: to its end where the program goes on. A write that failed ends it earlier.
+pub record ServesPiece (piece : List ℕ) (p : Pending) (buffer : List ℕ) (t : Tables) (buffer′ : List ℕ) (t′ : Tables) (r : Rest) : Type 0 where
+  pub holds : r .line .len ≤ longestLine
+  pub within : r .from ≤ length piece
+  pub whole : r .going ≡ true → r .from ≡ length piece
+  pub hands : Hands (take (r .from) piece) p buffer t (r .line) buffer′ t′
+
+-- The same of what has been read: so many bytes at the start of the piece buffer.
+pub record ServesRead (p : Pending) (buffer : List ℕ) (t : Tables) (piece buffer′ : List ℕ) (t′ : Tables) (r : Piece) : Type 0 where
+  pub within : r .read ≤ length piece
+  pub serves : ServesPiece (take (r .read) piece) p buffer t buffer′ t′ (r .rest)
+
+-- The line that the input's end ends, if there is one, is served. The output is the first bytes of `out`.
+pub record ServesLast (p : Pending) (buffer : List ℕ) (t t′ : Tables) (out′ : List ℕ) (n : ℕ) : Type 0 where
+  pub fits : n ≤ length out′
+  pub leaves : (line : List ℕ) → Pends line p buffer → t′ ≡ afterLines (unended line) t
+  pub prints : (line : List ℕ) → Pends line p buffer → take n out′ ≡ transcript (unended line) t
+
+-- ---- all of the input
+
+-- the lines that are served: all of them where the input has ended, else those that end in what came of it
+abbrev pub servedOf : Bool → List ℕ → List (List ℕ)
+servedOf true input = lines input
+servedOf false input = completed [] input
+
+-- `input` is all that was read and served, and `handed` all that was handed to write
+pub record ServesInput (t : Tables) (ended : Bool) : Type 0 where
+  pub input : List ℕ
+  pub handed : List ℕ
+  pub leaves : t ≡ afterLines (servedOf ended input) atStart
+  pub prints : handed ≡ transcript (servedOf ended input) atStart
