@@ -1,14 +1,13 @@
 -- Parts served one behind another.
-use Prim.Native.Nat.{ℕ, _≤_}
-use mathlib.Core.Path.{_≡_, refl, sym, ap, _∙_}
+use Prim.Native.Nat.{ℕ}
+use mathlib.Core.Path.{_≡_, refl, sym, ap}
 use mathlib.Core.List.{List, [], _∷_, _++_, append-nil, append-assoc}
 use mathlib.Core.Bool.{true, false}
-use lib.ListN.{length, take}
-use Rattle.records.specs.Rows.{pick}
+use lib.ListN.{take}
 use Rattle.meaning.specs.Tables.{Tables}
 use Rattle.text.specs.Line.{asked}
 use Rattle.text.specs.Print.{transcript, served, servedAs, newline}
-use Rattle.text.specs.Program.{completed, remaining, unended, lines, afterLines, atStart}
+use Rattle.text.specs.Program.{completed, remaining, afterLines}
 use Rattle.text.specs.Gathering.{Pends, Gathers, firstLine, part}
 use Rattle.text.specs.Cuts.{completed-both, remaining-both, after-both, transcript-both}
 use Rattle.text.specs.LaysLaws.{laid-up-to}

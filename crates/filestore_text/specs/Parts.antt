@@ -14,8 +14,8 @@ use Rattle.filestore_text.specs.declared.pieces.Step.{Step}
 use Rattle.filestore_text.specs.declared.Rest.{Rest}
 use Rattle.filestore_text.specs.declared.Piece.{Piece}
 
--- From one moment to a later one a part of the input is served: whatever line has come before it, the lines that end in the part
--- have changed the tables, what they print stands behind the output before it, and the line so far is what is left then.
+-- A part of the input served, from one moment to a later one. Whatever line has come before the part: the tables are those that
+-- the lines that end in it leave, what they print stands behind what was printed, and what is left of the part is the line so far.
 pub record ServesPart (bytes : List ℕ) (p : Pending) (buffer : List ℕ) (t : Tables) (printed : List ℕ)
     (p′ : Pending) (buffer′ : List ℕ) (t′ : Tables) (printed′ : List ℕ) : Type 0 where
   pub pends : (line : List ℕ) → Pends line p buffer → Pends (remaining line bytes) p′ buffer′
@@ -31,11 +31,12 @@ pub record Steps (p : Pending) (piece : List ℕ) (from at : ℕ) (buffer : List
   pub serves : ServesPart (part piece from (r .from)) p buffer t (take at out) (r .line) buffer′ t′ (take (r .at) out′)
 
 -- A part served by any number of steps, each of which hands its output to write: `handed` is all of it, one step's behind another's.
+-- No value of the program holds that row, so it is only said to be there; what one step hands over is `out`'s own bytes (`Steps`).
 pub record Hands (bytes : List ℕ) (p : Pending) (buffer : List ℕ) (t : Tables) (p′ : Pending) (buffer′ : List ℕ) (t′ : Tables) : Type 0 where
   pub handed : List ℕ
   pub serves : ServesPart bytes p buffer t [] p′ buffer′ t′ handed
 
--- A piece served up to a place: to its end where the program goes on. A write that failed ends it earlier.
+-- A piece served up to a place: to its end where the program goes on. A failed write ends it earlier, and the bytes up to there are served all the same.
 pub record ServesPiece (piece : List ℕ) (p : Pending) (buffer : List ℕ) (t : Tables) (buffer′ : List ℕ) (t′ : Tables) (r : Rest) : Type 0 where
   pub holds : r .line .len ≤ longestLine
   pub within : r .from ≤ length piece
@@ -60,7 +61,8 @@ abbrev pub servedOf : Bool → List ℕ → List (List ℕ)
 servedOf true input = lines input
 servedOf false input = completed [] input
 
--- `input` is all that was read and served, and `handed` all that was handed to write
+-- `input` is all that was read and served, and `handed` all that was handed to write. Both are only said to be there:
+-- that a piece is what stands in the piece buffer is said by the call that read it (`ServesRead`).
 pub record ServesInput (t : Tables) (ended : Bool) : Type 0 where
   pub input : List ℕ
   pub handed : List ℕ

@@ -26,17 +26,17 @@ struct Turn {
 }
 
 // After a piece: the line so far, how many of the piece's bytes are served, and whether to go on.
-pub struct Rest {
-    pub line: Pending,
-    pub from: usize,
-    pub going: bool,
+struct Rest {
+    line: Pending,
+    from: usize,
+    going: bool,
 }
 
 // After a read: how many bytes it put into the piece buffer, what has become of them, and whether the input has ended.
-pub struct Piece {
-    pub read: usize,
-    pub rest: Rest,
-    pub ended: bool,
+struct Piece {
+    read: usize,
+    rest: Rest,
+    ended: bool,
 }
 
 // A step through the piece. What it prints, the output's first bytes, is handed to write.
@@ -74,7 +74,7 @@ fn serve_and_write(
     Turn { step, going }
 }
 
-// The lines that end in a piece. All that they print is written, many lines at a time.
+// The lines that end in a piece. All that they print is handed to write, many lines at a time; a write that fails ends it.
 fn serve_piece(
     blocks: &mut [u8],
     block_records: &mut [u8],

@@ -7,7 +7,7 @@ use mathlib.Core.Bool.{Bool, true, false}
 use native.Mathlib.Numerals.{add-one}
 use native.Mathlib.Omega.{arith}
 use lib.ListN.{length, take, drop}
-use lib.Seq.{drop-drop, take-add, take-all}
+use lib.Seq.{drop-drop, take-add}
 use lib.Dec.{eqb}
 use Rattle.records.specs.Rows.{pick, lowest, lowestFrom}
 use Rattle.records.specs.Tests.{tested}
@@ -66,10 +66,12 @@ part-both piece from middle to h k =
     let there : from + (middle - from) ≡ middle = omega arith in
     rw (all, take-add (middle - from) (to - middle) (drop from piece), drop-drop (middle - from) from piece, there)
 
+-- from a place up to itself there is nothing
 pub part-nothing : (piece : List ℕ) (from : ℕ) → part piece from from ≡ []
 unfolding part
 part-nothing piece from = let e : from - from ≡ 0 = omega arith in rw e
 
+-- from the start on
 pub part-start : (piece : List ℕ) (to : ℕ) → part piece 0 to ≡ take to piece
 unfolding part
 part-start piece to = let e : to - 0 ≡ to = omega arith in rw e

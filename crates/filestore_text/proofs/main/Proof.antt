@@ -1,11 +1,11 @@
 -- The four tables, prepared, are the store that the program starts with.
-use mathlib.Core.Path.{_≡_, refl, _∙_}
+use mathlib.Core.Path.{_≡_}
 use lib.ListN.{replicate}
 use Rattle.records.specs.Rows.{allOf}
 use Rattle.meaning.specs.Tables.{Tables, tables, putAll}
 use Rattle.meaning.specs.Sound.{lengthsAgree}
 use Rattle.meaning.specs.Result.{unless}
-use Rattle.meaning.specs.Run.{Call, Prepare, meaning, accepts, resultOf, changesOf}
+use Rattle.meaning.specs.Run.{Prepare, meaning, accepts, resultOf, changesOf}
 use Rattle.text.specs.Program.{atStart}
 use borrow.Author.Needs.{needs}
 use Rattle.filestore_text.proofs.main.Statement.{statement}
@@ -15,9 +15,9 @@ use Rattle.filestore_text.proofs.main.Tie as tie
 abbrev lent : Tables
 lent = tables (replicate 2048 0) (replicate 16 0) (replicate 32 0) (replicate 16 0)
 
-starts : putAll lent (changesOf (resultOf Prepare lent)) ≡ atStart
+store-at-start : (t : Tables) → t ≡ putAll lent (changesOf (resultOf Prepare lent)) → t ≡ atStart
 unfolding allOf lengthsAgree unless meaning accepts resultOf changesOf putAll atStart
-starts = refl
+store-at-start t prepared = prepared
 
 slice-aggregate-prepare : tie.Need-slice-aggregate-prepare
 slice-aggregate-prepare c = search needs
@@ -65,9 +65,7 @@ slice-aggregate-serve-input-7 : tie.Need-slice-aggregate-serve-input-7
 slice-aggregate-serve-input-7 c = search needs
 
 serve-input-requires : tie.Need-serve-input-requires
-serve-input-requires c κs =
-    let prepared = c .before .before .before .before .before .before .before .before .before .before .before .before .before in
-    (prepared .prepare .ensures .leaves ∙ starts, (search needs, search needs))
+serve-input-requires c κs = (search store-at-start, (search needs, search needs))
 
 returns : tie.Need-returns
 returns c = search needs
