@@ -59,7 +59,7 @@ module _ (xs ys : List ℕ) (p : Pending) (buffer : List ℕ) (t : Tables) (prin
       }
 
 -- what is printed stands behind any output
-pub part-onto : (handed bytes : List ℕ) (p : Pending) (buffer : List ℕ) (t : Tables) (p′ : Pending) (buffer′ : List ℕ) (t′ : Tables) (printed : List ℕ)
+part-onto : (handed bytes : List ℕ) (p : Pending) (buffer : List ℕ) (t : Tables) (p′ : Pending) (buffer′ : List ℕ) (t′ : Tables) (printed : List ℕ)
     → ServesPart bytes p buffer t [] p′ buffer′ t′ printed → ServesPart bytes p buffer t handed p′ buffer′ t′ (handed ++ printed)
 part-onto handed bytes p buffer t p′ buffer′ t′ printed s =
     record { pends = s .pends; leaves = s .leaves; prints = λ line h. ap (λ out. handed ++ out) (s .prints line h) }

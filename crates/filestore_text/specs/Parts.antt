@@ -61,7 +61,7 @@ abbrev pub servedOf : Bool → List ℕ → List (List ℕ)
 servedOf true input = lines input
 servedOf false input = completed [] input
 
--- `input` is all that was read and served, and `handed` all that was handed to write. Both are only said to be there:
+-- `input` is all that was read and served, and `handed` all that was handed to write (`written input` where it has ended). Both are only said to be there:
 -- that a piece is what stands in the piece buffer is said by the call that read it (`ServesRead`).
 pub record ServesInput (t : Tables) (ended : Bool) : Type 0 where
   pub input : List ℕ
