@@ -1,3 +1,2 @@
-pub mod Owes
-pub mod OwesLaws
-pub mod Steps
+pub mod Parts
+pub mod PartLaws

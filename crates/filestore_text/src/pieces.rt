@@ -4,17 +4,12 @@ use text::lines::Pending;
 use text::lines::fresh;
 use text::lines::gather;
 use text::lines::has_line;
-ghost use Prim.Native.Nat.{ℕ, _+_, _≤_, _<_};
-ghost use mathlib.Core.Path.{_≡_};
-ghost use mathlib.Core.List.{List, []};
-ghost use lib.ListN.{length, take};
+ghost use Prim.Native.Nat.{_+_, _≤_, _<_};
+ghost use lib.ListN.{length};
 ghost use Rattle.meaning.specs.Run.{entered, left};
 ghost use Rattle.text.specs.Line.{longestLine};
-ghost use Rattle.text.specs.Print.{transcript};
-ghost use Rattle.text.specs.Program.{linesFrom};
-ghost use Rattle.text.specs.Gathering.{Pends};
 ghost use Rattle.serving.specs.Serves.{lineRoom};
-ghost use Rattle.filestore_text.specs.Steps.{Steps};
+ghost use Rattle.filestore_text.specs.Parts.{Steps, ServesLast};
 
 // The line so far, where the rest of the piece starts, and how many bytes of output wait.
 pub struct Step {
@@ -120,8 +115,7 @@ pub fn serve_last(
     requires { ⌜ longestLine ≤ length (now buffer) ⌝ }
     requires { ⌜ line .len ≤ longestLine ⌝ }
     requires { ⌜ lineRoom ≤ length (now out) ⌝ }
-    ensures { λ r. ⌜ r ≤ length (now (out .exit)) ⌝ }
-    ensures { λ r. ⌜ ((bytes : List ℕ) → Pends bytes line (now (buffer .entry)) → take r (now (out .exit)) ≡ transcript (linesFrom bytes []) (entered blocks «block_records» «file_records» «channel_records»)) ⌝ }
+    ensures { λ r. ⌜ ServesLast line (now (buffer .entry)) (entered blocks «block_records» «file_records» «channel_records») (left blocks «block_records» «file_records» «channel_records») (now (out .exit)) r ⌝ }
 {
     if has_line(line) {
         return serve_line(

@@ -12,7 +12,7 @@ use Rattle.text.specs.Program.{written}
 
 -- what the program writes for a text
 writes : String → List ℕ
-unfolding wrongFrom Line.wordEnd Line.firstWord Line.afterWord Line.given Line.nothing Line.aWord Line.isDigit Line.valueFrom Line.number Line.aNumber Line.theData Line.aName Line.twoNames Line.lastNumber Line.reading Line.forms Line.formed Line.asked Print.digits Print.decimal Print.hexDigit Print.hex Print.spaced Print.hexWord Print.printed Print.servedAs Print.served Print.transcript Program.unended Program.linesFrom Program.lines Program.atStart Program.written
+unfolding wrongFrom Line.wordEnd Line.firstWord Line.afterWord Line.given Line.nothing Line.aWord Line.isDigit Line.valueFrom Line.number Line.aNumber Line.theData Line.aName Line.twoNames Line.lastNumber Line.reading Line.forms Line.formed Line.asked Print.digits Print.decimal Print.hexDigit Print.hex Print.spaced Print.hexWord Print.printed Print.servedAs Print.served Print.transcript Program.unended Program.completed Program.remaining Program.lines Program.atStart Program.written
 writes input = written (text input)
 
 of-01 : writes "create /x\nwrite 0 MONFRI\nseek 0 0 8\nwrite 0 SU\nfstat 0\nseek 0 0 5\nread 0 9\nopen /y\nroom\n"

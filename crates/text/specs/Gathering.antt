@@ -1,5 +1,5 @@
 -- A line that is put together from pieces of the input, and what the code keeps of it.
-use Prim.Native.Nat.{ℕ, _<_, _≤_}
+use Prim.Native.Nat.{ℕ, _-_, _<_, _≤_}
 use mathlib.Core.Path.{_≡_}
 use mathlib.Core.List.{List, [], _∷_, _++_}
 use mathlib.Core.Bool.{Bool, true, false}
@@ -7,7 +7,7 @@ use lib.ListN.{length, take, drop}
 use Rattle.records.specs.Rows.{pick}
 use Rattle.text.specs.Line.{longestLine}
 use Rattle.text.specs.Print.{newline}
-use Rattle.text.specs.Program.{linesFrom}
+use Rattle.text.specs.Program.{completed, remaining}
 use Rattle.text.specs.Commands.{firstOf}
 use Rattle.text.specs.declared.lines.Pending.{Pending}
 use Rattle.text.specs.declared.lines.Gathered.{Gathered}
@@ -31,13 +31,16 @@ pub record Appends (buffer : List ℕ) (p : Pending) (bytes : List ℕ) (after :
 unfoldable pub firstLine : List ℕ → List ℕ
 firstLine bytes = take (firstOf newline bytes) bytes
 
+-- the bytes of a piece from one place on, up to another
+unfoldable pub part : List ℕ → ℕ → ℕ → List ℕ
+part piece from to = take (to - from) (drop from piece)
+
 -- the state and the buffer after a piece from a place on, up to the line's end or to the piece's:
--- the lines of the input are this line and those behind it, or those of the line so far, whatever input follows
+-- in the bytes up to there this line ends and nothing is left, or no line does and all of it is
 pub record Gathers (buffer : List ℕ) (p : Pending) (piece : List ℕ) (from : ℕ) (after : List ℕ) (r : Gathered) : Type 0 where
   pub appends : Appends buffer p (firstLine (drop from piece)) after (r .line)
   pub moves : r .complete ≡ true → from < r .at
   pub within : r .at ≤ length piece
   pub whole : r .complete ≡ false → r .at ≡ length piece
-  pub lines : (line input : List ℕ) → linesFrom line (drop from piece ++ input)
-      ≡ pick (r .complete) ((line ++ firstLine (drop from piece)) ∷ linesFrom [] (drop (r .at) piece ++ input))
-      (linesFrom (line ++ firstLine (drop from piece)) input)
+  pub completes : (line : List ℕ) → completed line (part piece from (r .at)) ≡ pick (r .complete) ((line ++ firstLine (drop from piece)) ∷ []) []
+  pub leaves : (line : List ℕ) → remaining line (part piece from (r .at)) ≡ pick (r .complete) [] (line ++ firstLine (drop from piece))

@@ -16,7 +16,7 @@ use model::sessions::Session;
 use model::text::serve;
 
 /// The most that the program reads at once.
-const PIECE: usize = 65_536;
+const PIECE: usize = 4_096;
 
 fn start(input: Stdio, output: Stdio) -> Child {
     let program = PathBuf::from(env!("CARGO_MANIFEST_DIR")).join("../../target/bin/filestore_text");

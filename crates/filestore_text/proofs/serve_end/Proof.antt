@@ -1,4 +1,4 @@
--- As many bytes are written as the last line prints.
+-- As many bytes are handed over as the last line prints.
 use Rattle.filestore_text.proofs.Written.{as-long}
 use borrow.Author.Needs.{needs}
 use Rattle.filestore_text.proofs.serve_end.Statement.{statement}

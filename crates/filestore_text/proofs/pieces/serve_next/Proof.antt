@@ -1,4 +1,4 @@
--- The piece ends within the line, or the line is served: in both cases the place has moved on and what is owed is as it was.
+-- The piece ends within the line, or the line is served: in both cases the place has moved on and the bytes up to there are served.
 use Prim.Native.Nat.{ℕ, _+_, _≤_, _<_}
 use mathlib.Core.Path.{_≡_}
 use mathlib.Core.List.{List, []}
@@ -9,8 +9,8 @@ use Rattle.meaning.specs.Tables.{Tables}
 use Rattle.text.specs.Gathering.{Pends, Gathers}
 use Rattle.text.specs.declared.lines.Pending.{Pending}
 use Rattle.serving.specs.Serves.{ServesLine, lineRoom}
-use Rattle.filestore_text.specs.OwesLaws.{owes-more, owes-served}
-use Rattle.filestore_text.specs.Steps.{Steps}
+use Rattle.filestore_text.specs.Parts.{Steps}
+use Rattle.filestore_text.specs.PartLaws.{part-open, part-line}
 use borrow.Author.Needs.{needs}
 use Rattle.filestore_text.proofs.pieces.serve_next.Statement.{statement}
 use Rattle.filestore_text.proofs.pieces.serve_next.Tie as tie
@@ -25,7 +25,7 @@ module _ (start : Pending) (starts : (b : List ℕ) → Pends [] start b) (buffe
         moves = gathers .moves e;
         within = gathers .within;
         fits = s .fits;
-        carries = record { owes = λ owed o. owes-served owed p buffer piece from t out at o after _ gathers e start (starts after) t′ out′ next (s .serves) };
+        serves = part-line p buffer piece from after _ gathers t out at e start (starts after) t′ out′ next (s .serves);
       }
 
 module _ (buffer : List ℕ) (p : Pending) (piece : List ℕ) (from : ℕ) (after : List ℕ)
@@ -39,7 +39,7 @@ module _ (buffer : List ℕ) (p : Pending) (piece : List ℕ) (from : ℕ) (afte
         moves = omega arith;
         within = gathers .within;
         fits = omega arith;
-        carries = record { owes = λ owed o. owes-more owed p buffer piece from t out at o after _ gathers e };
+        serves = part-open p buffer piece from after _ gathers t out at e;
       }
 
 gather-requires : tie.Need-gather-requires

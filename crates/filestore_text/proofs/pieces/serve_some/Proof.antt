@@ -1,39 +1,44 @@
--- What was owed is still owed at each turn; the measure is what is left of the piece.
+-- At each turn the piece is served up to the place, and the output has what its lines print; the measure is what is left of the piece.
 use Prim.Native.Nat.{ℕ, _+_, _-_, _≤_, _<_}
 use mathlib.Core.Path.{_≡_}
-use mathlib.Core.List.{List}
+use mathlib.Core.List.{List, []}
 use mathlib.Core.Bool.{false}
 use native.Mathlib.Omega.{arith}
-use lib.ListN.{length}
+use lib.ListN.{length, take}
 use lib.Dec.{ltb}
 use borrow.Author.Tests.{ltb-false}
 use Rattle.meaning.specs.Tables.{Tables, tables}
 use Rattle.text.specs.Line.{longestLine}
+use Rattle.text.specs.Gathering.{part}
+use Rattle.text.specs.Cuts.{part-both, part-nothing}
 use Rattle.text.specs.declared.lines.Pending.{Pending}
 use Rattle.serving.specs.Serves.{lineRoom}
-use Rattle.filestore_text.specs.Owes.{Carries}
-use Rattle.filestore_text.specs.Steps.{Steps}
+use Rattle.filestore_text.specs.Parts.{ServesPart, Steps}
+use Rattle.filestore_text.specs.PartLaws.{part-none, part-behind}
 use borrow.Author.Needs.{needs}
 use Rattle.filestore_text.proofs.pieces.serve_some.Statement.{statement}
 use Rattle.filestore_text.proofs.pieces.serve_some.Tie as tie
 
-start : (piece : List ℕ) (p : Pending) (buffer : List ℕ) (from : ℕ) (t : Tables) (out : List ℕ) (at : ℕ) → Carries piece p buffer from t out at p buffer from t out at
-start piece p buffer from t out at = record { owes = λ owed o. o }
+start : (piece : List ℕ) (from : ℕ) (p : Pending) (buffer : List ℕ) (t : Tables) → ServesPart (part piece from from) p buffer t [] p buffer t []
+start piece from p buffer t = rw (part-nothing piece from) (part-none p buffer t [])
 
 module _ (piece : List ℕ) (p₀ : Pending) (buffer₀ : List ℕ) (from₀ : ℕ) (t₀ : Tables) (out₀ : List ℕ) (p : Pending) (buffer : List ℕ) (from : ℕ) (t : Tables) (out : List ℕ) (at : ℕ)
-    (so-far : Carries piece p₀ buffer₀ from₀ t₀ out₀ 0 p buffer from t out at) (buffer′ : List ℕ) (t′ : Tables) (out′ : List ℕ)
+    (so-far : ServesPart (part piece from₀ from) p₀ buffer₀ t₀ [] p buffer t (take at out)) (before : from₀ ≤ from) (buffer′ : List ℕ) (t′ : Tables) (out′ : List ℕ)
     (line : Pending) (end next : ℕ) (step : Steps p piece from at buffer t out buffer′ t′ out′ (record { line = line; from = end; at = next })) where
-  onward : Carries piece p₀ buffer₀ from₀ t₀ out₀ 0 line buffer′ end t′ out′ next
-  onward = record { owes = λ owed o. step .carries .owes owed (so-far .owes owed o) }
+  onward : ServesPart (part piece from₀ end) p₀ buffer₀ t₀ [] line buffer′ t′ (take next out′)
+  onward =
+      let h : from ≤ end = omega (arith, step .moves) in
+      rw (part-both piece from₀ from end before h)
+      (part-behind (part piece from₀ from) (part piece from end) p₀ buffer₀ t₀ [] p buffer t (take at out) line buffer′ t′ (take next out′) so-far (step .serves))
 
-  stepped : from₀ ≤ from → Steps p₀ piece from₀ 0 buffer₀ t₀ out₀ buffer′ t′ out′ (record { line = line; from = end; at = next })
-  stepped h =
+  stepped : Steps p₀ piece from₀ 0 buffer₀ t₀ out₀ buffer′ t′ out′ (record { line = line; from = end; at = next })
+  stepped =
       record {
         holds = step .holds;
         moves = omega (arith, step .moves);
         within = step .within;
         fits = step .fits;
-        carries = onward;
+        serves = onward;
       }
 
 room-left : (size at : ℕ) → ltb (size - at) 4200 ≡ false → at + lineRoom ≤ size
@@ -44,7 +49,7 @@ Inv-loop blocks₀ block-records₀ file-records₀ channel-records₀ buffer₀
     (length blocks ≡ length blocks₀) × (length block-records ≡ length block-records₀) × (length file-records ≡ length file-records₀)
     × (length channel-records ≡ length channel-records₀) × (length buffer ≡ length buffer₀) × (length out ≡ length out₀)
     × (line .len ≤ longestLine) × (from ≤ from') × (from' < length piece) × (at + lineRoom ≤ length out)
-    × Carries piece line₀ buffer₀ from (tables blocks₀ block-records₀ file-records₀ channel-records₀) out₀ 0 line buffer from' (tables blocks block-records file-records channel-records) out at
+    × ServesPart (part piece from from') line₀ buffer₀ (tables blocks₀ block-records₀ file-records₀ channel-records₀) [] line buffer (tables blocks block-records file-records channel-records) (take at out)
 
 abbrev μ-loop : tie.MeasureT-loop
 μ-loop blocks₀ block-records₀ file-records₀ channel-records₀ buffer₀ piece from out₀ line₀ from₀ at₀ blocks block-records file-records channel-records buffer out line from' at = length piece - from'

@@ -7,11 +7,11 @@ use native.Mathlib.Omega.{arith}
 use mir.Val.{Fits}
 use mir.Syntax.{w64}
 use lib.ListN.{length, take, drop, length-drop}
-use lib.Seq.{drop-drop, take-all}
+use lib.Seq.{take-all}
 use Rattle.text.specs.Print.{newline}
 use Rattle.text.specs.Commands.{firstOf}
-use Rattle.text.specs.Gathering.{firstLine, Appends, Gathers}
-use Rattle.text.specs.Cuts.{line-ends, line-goes-on}
+use Rattle.text.specs.Gathering.{firstLine, part, Appends, Gathers}
+use Rattle.text.specs.Cuts.{line-ends, line-ended, line-goes-on, line-grows}
 use Rattle.text.specs.declared.lines.Pending.{Pending}
 use Rattle.text.proofs.ArgumentLaws.{first-within, from-on}
 use borrow.Author.Needs.{needs}
@@ -37,30 +37,33 @@ module _ (piece : List ℕ) (from f : ℕ) (inside : from ≤ length piece) (e :
     appended = subst (λ bytes. Appends buffer p bytes after r) is-line a
 
     line-complete : from + f < length piece → Gathers buffer p piece from after (record { line = r; at = from + f + 1; complete = true })
+    unfolding part
     line-complete h =
         let l : firstOf newline (drop from piece) < length (drop from piece) = omega (arith, is-first, length-drop from piece) in
-        let s : from + (firstOf newline (drop from piece) + 1) ≡ from + f + 1 = omega (arith, is-first) in
-        let rest : drop (firstOf newline (drop from piece) + 1) (drop from piece) ≡ drop (from + f + 1) piece =
-        rw (drop-drop (firstOf newline (drop from piece) + 1) from piece, s) in
+        let s : from + f + 1 - from ≡ firstOf newline (drop from piece) + 1 = omega (arith, is-first) in
         record {
           appends = appended;
           moves = λ t. omega arith;
           within = omega arith;
           whole = λ t. absurd (true≢false t);
-          lines = λ line input. rw (← rest) (line-ends (drop from piece) line input l);
+          completes = λ line. rw s (line-ends (drop from piece) line l);
+          leaves = λ line. rw s (line-ended (drop from piece) line l);
         }
 
     line-open : length piece ≤ from + f → Gathers buffer p piece from after (record { line = r; at = from + f; complete = false })
-    unfolding firstLine
+    unfolding firstLine part
     line-open h =
         let l : length (drop from piece) ≤ firstOf newline (drop from piece) = omega (arith, is-first, length-drop from piece) in
         let i = in-piece in
+        let n : length (drop from piece) ≤ from + f - from = omega (arith, length-drop from piece) in
+        let all : take (from + f - from) (drop from piece) ≡ drop from piece = take-all (from + f - from) (drop from piece) n in
         record {
           appends = appended;
           moves = λ t. absurd (true≢false (sym t));
           within = i;
           whole = λ t. omega arith;
-          lines = λ line input. rw (take-all (firstOf newline (drop from piece)) (drop from piece) l) (line-goes-on (drop from piece) line input l);
+          completes = λ line. rw all (line-goes-on (drop from piece) line l);
+          leaves = λ line. rw (all, take-all (firstOf newline (drop from piece)) (drop from piece) l) (line-grows (drop from piece) line l);
         }
 
 sub-find : tie.Need-sub-find
