@@ -167,6 +167,14 @@ pub fn block_start(b: BlockNo) -> usize
     BLOCK_SIZE * (b.0 as usize)
 }
 
+// Where the bytes of a place that has a block start in the block table.
+pub fn place_start(records: &[u8], f: FileNo, i: u16) -> usize
+    requires { ⌜ (blockCount (now records) ≤ 65536) × (blockOf (now records) (f .0) i < blockCount (now records)) ⌝ }
+    ensures { λ r. ⌜ r ≡ 512 * blockOf (now (records .entry)) (f .0) i ⌝ }
+{
+    block_start(held_block(records, f, i))
+}
+
 // How many blocks are free.
 pub fn count_free_blocks(records: &[u8]) -> usize
     ensures { λ r. ⌜ r ≡ freeBlockCount (now (records .entry)) ⌝ }
