@@ -1,11 +1,11 @@
 // Whether four lent tables are a sound store, decided on any bytes (01, "A store is sound when all of these hold").
 use meaning::FileNo;
-use names::is_blank;
 use names::record_file;
 use records::four_at;
 use records::one_at;
 use records::two_at;
 use records::zeros_at;
+use tables::FoundBlock;
 use tables::find_block;
 use tables::is_held;
 ghost use mathlib.Core.Path.{_≡_};
@@ -16,7 +16,7 @@ ghost use Rattle.records.specs.Rows.{every};
 ghost use Rattle.records.specs.Numbers.{zeros};
 ghost use Rattle.meaning.specs.Name.{isWritten, same, entryIn, entryAt};
 ghost use Rattle.meaning.specs.Store.{inUse, isDirectory};
-ghost use Rattle.meaning.specs.Tables.{tables, blockCount, fileCount, channelCount, lengthAt};
+ghost use Rattle.meaning.specs.Tables.{blockOf, tables, blockCount, fileCount, channelCount, lengthAt};
 ghost use Rattle.meaning.specs.Sound.{lengthsAgree, blockSound, placedOnce, fileSound, filesSound, channelSound, channelsSound, recordSound, sound};
 ghost use Rattle.names.specs.RecordNames.{recordFrom};
 ghost use Rattle.soundness.specs.Rules.{countsTo, directoryForm, placeCount, placedBelow, deeperThan, newAt, recordsAt, namesAt, deeperAt, Countable, Counted, isNamedBy, allNamedBy};
@@ -368,6 +368,18 @@ pub fn lengths_agree(
     channel_records.len() == 8 * c
 }
 
+// The number of the block that is place i of file f, or the count of blocks where there is none.
+fn block_number(block_records: &[u8], f: FileNo, i: u16) -> u16
+    requires { ⌜ blockCount (now «block_records») ≤ 128 ⌝ }
+    ensures { λ r. ⌜ r ≡ blockOf (now («block_records» .entry)) (f .0) i ⌝ }
+{
+    let found = find_block(block_records, f, i);
+    match found {
+        FoundBlock::At(b) => b.0,
+        FoundBlock::Nowhere => (block_records.len() / 4) as u16,
+    }
+}
+
 // The blocks of the first n places of file f, in a row.
 fn find_blocks(block_records: &[u8], f: FileNo, n: usize) -> [u16; 64]
     requires { ⌜ (n ≤ 64) × (blockCount (now «block_records») ≤ 128) ⌝ }
@@ -376,7 +388,7 @@ fn find_blocks(block_records: &[u8], f: FileNo, n: usize) -> [u16; 64]
     let mut starts: [u16; 64] = [0; 64];
     let mut p: usize = 0;
     while p < n {
-        starts[p] = find_block(block_records, f, p as u16) as u16;
+        starts[p] = block_number(block_records, f, p as u16);
         p += 1;
     }
     starts
@@ -437,7 +449,7 @@ fn record_sound(blocks: &[u8], file_records: &[u8], k: usize) -> bool
 {
     let f = record_file(blocks, 16 * k);
     if f.0 == 0 {
-        return is_blank(blocks, 16 * k);
+        return zeros_at(blocks, 16 * k, 16);
     }
     if f.0 == 1 {
         return false;
@@ -482,7 +494,7 @@ fn name_new(blocks: &[u8], starts: &[u16; 64], i: usize) -> bool
     ensures { λ r. ⌜ r ≡ newAt (now (blocks .entry)) (now (starts .entry)) i ⌝ }
 {
     let at = 16 * slot_at(starts, i);
-    if is_blank(blocks, at) {
+    if zeros_at(blocks, at, 16) {
         return true;
     }
     let mut j: usize = 0;
@@ -530,7 +542,7 @@ fn chain_new(blocks: &[u8], starts: &[u16; 64], links: &[u16; 2048], i: usize, l
     ensures { λ r. ⌜ r ≡ newAt (now (blocks .entry)) (now (starts .entry)) i ⌝ }
 {
     let at = 16 * slot_at(starts, i);
-    if is_blank(blocks, at) {
+    if zeros_at(blocks, at, 16) {
         return true;
     }
     let mut next = last as usize;
