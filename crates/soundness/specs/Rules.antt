@@ -13,9 +13,9 @@ use Rattle.meaning.specs.Tables.{blockCount, holds}
 use Rattle.meaning.specs.Sound.{between, recordSound}
 use Rattle.soundness.specs.Slots.{slot, Within}
 
--- file record r may be a directory of a depth and a size: the first, and no other, has depth 0
+-- file f may be a directory of a depth and a size: the first, and no other, has depth 0
 unfoldable pub directoryForm : ℕ → ℕ → ℕ → Bool
-directoryForm r depth size = leb depth 7 && leb size longest && eqb (size % 16) 0 && agree (eqb r 0) (eqb depth 0)
+directoryForm f depth size = leb depth 7 && leb size longest && eqb (size % 16) 0 && agree (eqb f root) (eqb depth 0)
 
 -- how many blocks are place i of file f
 unfoldable pub placeCount : List ℕ → ℕ → ℕ → ℕ
@@ -77,9 +77,9 @@ isNamedBy s n f =
     || (isDirectory s f && eqb n 1)
     || (not (isDirectory s f) && (ltb 0 n || held s f))
 
--- the file of record r has, by a row of counts; and every file has
+-- the same by a row of counts; and every file has
 unfoldable pub namedBy : Store → List ℕ → ℕ → Bool
-namedBy s counts r = isNamedBy s (getD counts (suc r) 0) (suc r)
+namedBy s counts f = isNamedBy s (getD counts f 0) f
 
 unfoldable pub allNamedBy : Store → List ℕ → Bool
-allNamedBy s counts = every (s .fileCount) (namedBy s counts)
+allNamedBy s counts = every (s .fileCount) (λ r. namedBy s counts (suc r))

@@ -45,8 +45,8 @@ slot-at-requires c κs = slot-small _ _ _ (c .before .pre .0) _ (search needs)
 mul-at : tie.Need-mul-at Inv-loop μ-loop
 mul-at c = let h = slot-fits _ _ _ (c .before .before .pre .0) _ (search needs) _ (c .slot-at .ensures) in omega arith
 
-is-blank-requires : tie.Need-is-blank-requires Inv-loop μ-loop
-is-blank-requires c κs = slot-fits _ _ _ (c .before .before .pre .0) _ (search needs) _ (c .slot-at .ensures)
+zeros-at-requires : tie.Need-zeros-at-requires Inv-loop μ-loop
+zeros-at-requires c κs = slot-fits _ _ _ (c .before .before .pre .0) _ (search needs) _ (c .slot-at .ensures)
 
 returns : tie.Need-returns Inv-loop μ-loop
 returns c = search blank-new
@@ -83,7 +83,7 @@ returns-2 c =
     let d = c .before in
     let l = d .before .before .before in
     let e = l .before in
-    same-old _ _ _ _ (e .before .before .slot-at .ensures) _ (e .before .is-blank .ensures) (e .if1 .left)
+    same-old _ _ _ _ (e .before .before .slot-at .ensures) _ (e .before .zeros-at .ensures) (e .if1 .left)
     _ _ (d .before .slot-at2 .ensures) _ (d .same-name .ensures) (before _ _ _ _ (l .loop .inv) (search needs)) (c .if2 .taken)
 
 mul-next : tie.Need-mul-next Inv-loop μ-loop
@@ -113,7 +113,7 @@ loop-again c =
     let e = l .before in
     let p = e .before .before .before .before .pre in
     next _ _ _ _ (l .loop .inv) (search needs) _ (p .1 .1 .0) (p .0) (p .1 .0)
-    (other-name _ _ _ _ (e .before .before .slot-at .ensures) _ (e .before .is-blank .ensures) (e .if1 .left)
+    (other-name _ _ _ _ (e .before .before .slot-at .ensures) _ (e .before .zeros-at .ensures) (e .if1 .left)
     _ _ (d .before .slot-at2 .ensures) _ (d .same-name .ensures) (c .before .if2 .left))
 
 returns-3 : tie.Need-returns-3 Inv-loop μ-loop
@@ -121,7 +121,7 @@ returns-3 c =
     let l = c .before in
     let e = l .before in
     let p = e .before .before .before .before .pre in
-    compared-new _ _ _ _ (e .before .before .slot-at .ensures) _ (e .before .is-blank .ensures) (e .if1 .left)
+    compared-new _ _ _ _ (e .before .before .slot-at .ensures) _ (e .before .zeros-at .ensures) (e .if1 .left)
     (looked-all _ _ _ (p .0) (p .1 .0) _ (search needs) (l .loop .inv))
 
 pub chain-new-spec : {M : Type 1} → statement M
@@ -132,7 +132,7 @@ chain-new-spec =
     μ-loop
     slot-at-requires
     mul-at
-    is-blank-requires
+    zeros-at-requires
     returns
     loop-holds
     sub-k

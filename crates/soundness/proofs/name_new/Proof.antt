@@ -25,8 +25,8 @@ slot-at-requires c κs = slot-small _ _ _ (c .before .pre .0) _ (search needs)
 mul-at : tie.Need-mul-at Inv-loop μ-loop
 mul-at c = let h = slot-fits _ _ _ (c .before .before .pre .0) _ (search needs) _ (c .slot-at .ensures) in omega arith
 
-is-blank-requires : tie.Need-is-blank-requires Inv-loop μ-loop
-is-blank-requires c κs = slot-fits _ _ _ (c .before .before .pre .0) _ (search needs) _ (c .slot-at .ensures)
+zeros-at-requires : tie.Need-zeros-at-requires Inv-loop μ-loop
+zeros-at-requires c κs = slot-fits _ _ _ (c .before .before .pre .0) _ (search needs) _ (c .slot-at .ensures)
 
 returns : tie.Need-returns Inv-loop μ-loop
 returns c = search blank-new
@@ -52,7 +52,7 @@ returns-2 : tie.Need-returns-2 Inv-loop μ-loop
 returns-2 c =
     let d = c .before in
     let e = d .before .before .before .before in
-    same-old _ _ _ _ (e .before .before .slot-at .ensures) _ (e .before .is-blank .ensures) (e .if1 .left)
+    same-old _ _ _ _ (e .before .before .slot-at .ensures) _ (e .before .zeros-at .ensures) (e .if1 .left)
     _ _ (d .before .slot-at2 .ensures) _ (d .same-name .ensures) (search needs) (c .if2 .taken)
 
 add-j : tie.Need-add-j Inv-loop μ-loop
@@ -68,7 +68,7 @@ loop-again c =
     let e = l .before in (
       search needs,
       every-step (other _ _ _) _ (l .loop .inv .1)
-          (other-name _ _ _ _ (e .before .before .slot-at .ensures) _ (e .before .is-blank .ensures) (e .if1 .left)
+          (other-name _ _ _ _ (e .before .before .slot-at .ensures) _ (e .before .zeros-at .ensures) (e .if1 .left)
           _ _ (d .before .slot-at2 .ensures) _ (d .same-name .ensures) (c .if2 .left)),
     )
 
@@ -76,7 +76,7 @@ returns-3 : tie.Need-returns-3 Inv-loop μ-loop
 returns-3 c =
     let l = c .before in
     let e = l .before in
-    compared-new _ _ _ _ (e .before .before .slot-at .ensures) _ (e .before .is-blank .ensures) (e .if1 .left)
+    compared-new _ _ _ _ (e .before .before .slot-at .ensures) _ (e .before .zeros-at .ensures) (e .if1 .left)
     (sym (rules-passed (other _ _ _) _ _ (search needs) (search needs) (l .loop .inv .1)))
 
 pub name-new-spec : {M : Type 1} → statement M
@@ -87,7 +87,7 @@ name-new-spec =
     μ-loop
     slot-at-requires
     mul-at
-    is-blank-requires
+    zeros-at-requires
     returns
     loop-holds
     slot-at-requires-2

@@ -52,11 +52,11 @@ mul-record-file c = search needs
 record-file-requires : tie.Need-record-file-requires
 record-file-requires c κs = search needs
 
-mul-is-blank : tie.Need-mul-is-blank
-mul-is-blank c = search needs
+mul-zeros-at : tie.Need-mul-zeros-at
+mul-zeros-at c = search needs
 
-is-blank-requires : tie.Need-is-blank-requires
-is-blank-requires c κs = search needs
+zeros-at-requires : tie.Need-zeros-at-requires
+zeros-at-requires c κs = search needs
 
 returns : tie.Need-returns
 returns c = search blank
@@ -85,8 +85,8 @@ record-sound-spec =
     (tie.spec
     mul-record-file
     record-file-requires
-    mul-is-blank
-    is-blank-requires
+    mul-zeros-at
+    zeros-at-requires
     returns
     returns-2
     in-use-requires
