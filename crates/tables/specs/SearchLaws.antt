@@ -49,10 +49,10 @@ module _ (records : List ℕ) (bytes : (j : ℕ) → getD records j 0 < 256) whe
       (λ (s : o ≢ f). rw (ne-eqb o f s, ne-eqb (o + 65536 * p) (f + 65536 * i) (omega arith)))
       (same-or-not o f)
 
-  pub blockOf-number : (f i : ℕ) → f < 65536 → blockOf records f i ≡ lowest (blockCount records) (isNumber records (f + 65536 * i))
+  pub blockOf-number : (f i n : ℕ) → f < 65536 → n ≡ f + 65536 * i → blockOf records f i ≡ lowest (blockCount records) (isNumber records n)
   unfolding blockOf
-  blockOf-number f i small =
-      lowest-cong (blockCount records) (λ b. holds records f i b) (isNumber records (f + 65536 * i)) (λ b h. holds-number f i b small)
+  blockOf-number f i n small e =
+      rw e (lowest-cong (blockCount records) (λ b. holds records f i b) (isNumber records (f + 65536 * i)) (λ b h. holds-number f i b small))
 
   pub freeBlockCount-number : freeBlockCount records ≡ howMany (blockCount records) (isNumber records 0)
   unfolding freeBlockCount
