@@ -6,11 +6,11 @@ use native.Mathlib.Omega.{arith}
 use lib.Dec.{eqb}
 use Rattle.meaning.specs.File.{needed}
 use Rattle.meaning.specs.Store.{isDirectory}
-use Rattle.meaning.specs.Tables.{tables, blockCount, fileCount, fileLength}
+use Rattle.meaning.specs.Tables.{tables, fileCount, fileLength}
 use Rattle.tables.specs.Read.{FileRead}
 use Rattle.tables.specs.StoreLaws.{file-length, store-kind, store-depth}
 use Rattle.tables.specs.declared.FileRecord.{FileRecord}
-use Rattle.soundness.specs.Slots.{directoriesStore, Starts, Placed, Within, within-placed}
+use Rattle.soundness.specs.Slots.{directoriesStore, Findable, Starts, Placed, Within, within-placed}
 use Rattle.soundness.specs.DirectoryRules.{kind-directory}
 
 module _ (blocks records files : List ℕ) (placed : Placed blocks records files) (f : ℕ) (there : (0 < f) × (f ≤ fileCount files))
@@ -27,8 +27,13 @@ module _ (blocks records files : List ℕ) (placed : Placed blocks records files
   size-read = file-length files f (there .0) ∙ sym (read .length)
 
   module _ (n : ℕ) (n-is : n ≡ needed (x .length)) where
-    pub few-places : (n ≤ 64) × (blockCount records ≤ 128)
-    few-places = omega (arith, size-read, placed .short f (there .1), placed .few-blocks)
+    pub findable : Findable records f n
+    findable =
+        record {
+          few = omega (arith, size-read, placed .short f (there .1));
+          few-blocks = placed .few-blocks;
+          there = λ p (h : p < n). placed .there f p (omega (arith, size-read));
+        }
 
     module _ (starts : List ℕ) (found : Starts records f n starts) where
       pub starts-read : Starts records f (needed (fileLength files f)) starts

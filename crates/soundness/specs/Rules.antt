@@ -9,21 +9,17 @@ use Rattle.records.specs.Rows.{agree, every, howMany}
 use Rattle.meaning.specs.File.{longest}
 use Rattle.meaning.specs.Name.{entryAt, isBlank, same}
 use Rattle.meaning.specs.Store.{Store, root, inUse, isDirectory, held}
-use Rattle.meaning.specs.Tables.{blockCount, holds}
 use Rattle.meaning.specs.Sound.{between, recordSound}
+use Rattle.tables.specs.Searches.{blocksWith}
 use Rattle.soundness.specs.Slots.{slot, Within}
 
 -- file f may be a directory of a depth and a size: the first, and no other, has depth 0
 unfoldable pub directoryForm : ℕ → ℕ → ℕ → Bool
 directoryForm f depth size = leb depth 7 && leb size longest && eqb (size % 16) 0 && agree (eqb f root) (eqb depth 0)
 
--- how many blocks are place i of file f
-unfoldable pub placeCount : List ℕ → ℕ → ℕ → ℕ
-placeCount records f i = howMany (blockCount records) (λ b. holds records f i b)
-
 -- each of the first n places of file f has exactly one block
 unfoldable pub placedBelow : List ℕ → ℕ → ℕ → Bool
-placedBelow records f n = every n (λ i. eqb (placeCount records f i) 1)
+placedBelow records f n = every n (λ i. eqb (blocksWith records f i) 1)
 
 -- a count is from 1 up to a most
 unfoldable pub countsTo : ℕ → ℕ → Bool

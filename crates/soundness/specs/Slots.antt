@@ -18,7 +18,13 @@ use Rattle.directories.specs.Places.{recordPlace, record-there, blank-there}
 abbrev pub directoriesStore : List ℕ → List ℕ → List ℕ → Store
 directoriesStore blocks records files = storeOf (tables blocks records files [])
 
--- the blocks of the first n places of file f, in a row
+-- the first n places of file f have blocks
+pub record Findable (records : List ℕ) (f n : ℕ) : Type 0 where
+  pub few : n ≤ 64
+  pub few-blocks : blockCount records ≤ 128
+  pub there : (p : ℕ) → p < n → blockOf records f p < blockCount records
+
+-- these blocks in a row
 pub record Starts (records : List ℕ) (f n : ℕ) (starts : List ℕ) : Type 0 where
   pub each : (p : ℕ) → p < n → getD starts p 0 ≡ blockOf records f p
 
@@ -91,8 +97,8 @@ within-placed blocks records files placed f h starts found =
     }
 
 module _ (blocks starts : List ℕ) (n : ℕ) (w : Within blocks starts n) (i : ℕ) (h : i < n) where
-  pub slot-small : (i < 2048) × (slot starts i < 4096)
-  slot-small = omega (arith, w .few, w .small, w .inside i h)
+  pub slot-few : i < 2048
+  slot-few = omega (arith, w .few)
 
-  pub slot-fits : (k : ℕ) → k ≡ slot starts i → 16 * k + 16 ≤ length blocks
-  slot-fits k e = omega (arith, w .inside i h)
+  pub slot-fits : (at : ℕ) → at ≡ 16 * slot starts i → at + 16 ≤ length blocks
+  slot-fits at e = omega (arith, w .inside i h)

@@ -1,33 +1,42 @@
 // Whether four lent tables are a sound store, decided on any bytes (01, "A store is sound when all of these hold").
+use meaning::BLOCK_SIZE;
 use meaning::BlockNo;
 use meaning::ChannelNo;
 use meaning::FileNo;
+use meaning::LAST_POSITION;
+use meaning::LONGEST;
+use meaning::LONGEST_SYLLABLE;
+use meaning::MOST_BLOCKS;
+use meaning::MOST_CHANNELS;
+use meaning::MOST_FILES;
 use names::record_file;
 use records::four_at;
 use records::one_at;
 use records::two_at;
 use records::zeros_at;
 use tables::block_record;
+use tables::block_start;
 use tables::channel_record;
 use tables::channel_zeros;
+use tables::count_blocks;
 use tables::file_record;
 use tables::file_zeros;
-use tables::find_block;
+use tables::held_block;
 use tables::is_held;
 use tables::places;
 ghost use mathlib.Core.Path.{_≡_};
 ghost use mathlib.Core.Bool.{true};
-ghost use Prim.Native.Nat.{suc, _+_, _-_, _*_, _≤_, _<_};
+ghost use Prim.Native.Nat.{ℕ, suc, _+_, _-_, _*_, _≤_, _<_};
 ghost use lib.ListN.{length};
 ghost use Rattle.records.specs.Rows.{every};
-ghost use Rattle.meaning.specs.Name.{isWritten, same, entryIn, entryAt};
+ghost use Rattle.meaning.specs.Name.{isWritten, same, entryIn};
 ghost use Rattle.meaning.specs.Store.{inUse, isDirectory};
 ghost use Rattle.meaning.specs.Tables.{tables, blockCount, fileCount, channelCount, fileLength};
 ghost use Rattle.meaning.specs.Sound.{lengthsAgree, blockSound, placedOnce, fileSound, filesSound, channelSound, channelsSound, recordSound, sound};
 ghost use Rattle.names.specs.RecordNames.{recordFrom};
-ghost use Rattle.soundness.specs.Rules.{countsTo, directoryForm, placeCount, placedBelow, deeperThan, newAt, recordsAt, namesAt, deeperAt, Countable, Counted, isNamedBy, allNamedBy};
+ghost use Rattle.soundness.specs.Rules.{countsTo, directoryForm, placedBelow, deeperThan, newAt, recordsAt, namesAt, deeperAt, Countable, Counted, isNamedBy, allNamedBy};
 ghost use Rattle.soundness.specs.Seen.{filesStore, channelsStore, recordTables};
-ghost use Rattle.soundness.specs.Slots.{directoriesStore, Starts, slot, Placed, Within};
+ghost use Rattle.soundness.specs.Slots.{directoriesStore, Findable, Starts, slot, Placed, Within};
 ghost use Rattle.soundness.specs.RecordRules.{Filled};
 ghost use Rattle.soundness.specs.Chains.{Padded, chainFrom, chainAt, Last, Links};
 ghost use Rattle.soundness.specs.DirectoryRules.{directoryRule, directoriesRule};
@@ -102,7 +111,7 @@ fn directory_form(f: FileNo, depth: u8, size: u32) -> bool
     if 7 < depth {
         return false;
     }
-    if 32768 < size {
+    if LONGEST < size {
         return false;
     }
     size % 16 == 0
@@ -124,7 +133,7 @@ fn file_sound(file_records: &[u8], f: FileNo) -> bool
         return false;
     }
     if record.kind == 1 {
-        return record.length <= 32768;
+        return record.length <= LONGEST;
     }
     if record.kind != 0 {
         return false;
@@ -161,7 +170,7 @@ fn channel_sound(file_records: &[u8], channel_records: &[u8], c: ChannelNo) -> b
     if !in_use(file_records, file) {
         return false;
     }
-    record.position <= 16777215
+    record.position <= LAST_POSITION
 }
 
 // Whether every channel record is sound.
@@ -213,30 +222,13 @@ fn owners_sound(block_records: &[u8], file_records: &[u8]) -> bool
     true
 }
 
-// How many blocks are place i of file f. Owner and place are compared as one number.
-fn count_place(block_records: &[u8], f: FileNo, i: u16) -> usize
-    ensures { λ r. ⌜ r ≡ placeCount (now («block_records» .entry)) (f .0) i ⌝ }
-{
-    let wanted = f.0 as u32 + 65536 * (i as u32);
-    let count = block_records.len() / 4;
-    let mut found: usize = 0;
-    let mut b = 0;
-    while b < count {
-        if four_at(block_records, 4 * b) == wanted {
-            found += 1;
-        }
-        b += 1;
-    }
-    found
-}
-
 // Whether each of the first n places of file f has exactly one block. The first that has not ends the work.
 fn placed_below(block_records: &[u8], f: FileNo, n: u16) -> bool
     ensures { λ r. ⌜ r ≡ placedBelow (now («block_records» .entry)) (f .0) n ⌝ }
 {
     let mut i: u16 = 0;
     while i < n {
-        if count_place(block_records, f, i) != 1 {
+        if count_blocks(block_records, f, i) != 1 {
             return false;
         }
         i += 1;
@@ -386,16 +378,16 @@ pub fn lengths_agree(
     let b = block_records.len() / 4;
     let f = file_records.len() / 8;
     let c = channel_records.len() / 8;
-    if !counts_to(b, 128) {
+    if !counts_to(b, MOST_BLOCKS) {
         return false;
     }
-    if !counts_to(f, 64) {
+    if !counts_to(f, MOST_FILES) {
         return false;
     }
-    if !counts_to(c, 16) {
+    if !counts_to(c, MOST_CHANNELS) {
         return false;
     }
-    if blocks.len() != 512 * b {
+    if blocks.len() != BLOCK_SIZE * b {
         return false;
     }
     if block_records.len() != 4 * b {
@@ -407,26 +399,27 @@ pub fn lengths_agree(
     channel_records.len() == 8 * c
 }
 
-// The blocks of the first n places of file f, in a row.
+// The blocks of the first n places of file f, in a row. Each place has one.
 fn find_blocks(block_records: &[u8], f: FileNo, n: usize) -> [u16; 64]
-    requires { ⌜ (n ≤ 64) × (blockCount (now «block_records») ≤ 128) ⌝ }
+    requires { ⌜ Findable (now «block_records») (f .0) n ⌝ }
     ensures { λ r. ⌜ Starts (now («block_records» .entry)) (f .0) n r ⌝ }
 {
     let mut starts: [u16; 64] = [0; 64];
     let mut p: usize = 0;
     while p < n {
-        starts[p] = find_block(block_records, f, p as u16) as u16;
+        starts[p] = held_block(block_records, f, p as u16).0;
         p += 1;
     }
     starts
 }
 
-// Where record i of a directory is in the block table, by the row of its blocks.
-fn slot_at(starts: &[u16; 64], i: usize) -> usize
-    requires { ⌜ (i < 2048) × (slot (now starts) i < 4096) ⌝ }
-    ensures { λ r. ⌜ r ≡ slot (now (starts .entry)) i ⌝ }
+// Where record i of a directory starts in the block table, by the row of its blocks.
+fn record_start(starts: &[u16; 64], i: usize) -> usize
+    requires { ⌜ i < 2048 ⌝ }
+    ensures { λ r. ⌜ r ≡ 16 * slot (now (starts .entry)) i ⌝ }
 {
-    32 * (starts[i / 32] as usize) + i % 32
+    let b = BlockNo(starts[i / 32]);
+    block_start(b) + 16 * (i % 32)
 }
 
 // Whether the record that starts at a place has a syllable as its name, and zeros behind it.
@@ -435,13 +428,13 @@ fn is_written(table: &[u8], at: usize) -> bool
     ensures { λ r. ⌜ r ≡ isWritten (recordFrom (now (table .entry)) at) ⌝ }
 {
     let mut i: usize = 0;
-    while i < 14 {
+    while i < LONGEST_SYLLABLE {
         let b = one_at(table, at + 2 + i);
         if b == 0 {
             if i == 0 {
                 return false;
             }
-            return zeros_at(table, at + 2 + i, 14 - i);
+            return zeros_at(table, at + 2 + i, LONGEST_SYLLABLE - i);
         }
         if b == b'/' {
             return false;
@@ -469,14 +462,15 @@ fn same_name(table: &[u8], at: usize, other: usize) -> bool
     two_at(table, at + 14) == two_at(table, other + 14)
 }
 
-// Whether record k of the block table is blank, or names a file in use, not the root, by a syllable.
-fn record_sound(blocks: &[u8], file_records: &[u8], k: usize) -> bool
-    requires { ⌜ 16 * k + 16 ≤ length (now blocks) ⌝ }
-    ensures { λ r. ⌜ r ≡ recordSound (filesStore (now («file_records» .entry))) (now (blocks .entry)) k ⌝ }
+// Whether the record that starts at a place, record k of the block table, is blank, or names a file in use, not the root,
+// by a syllable.
+fn record_sound(blocks: &[u8], file_records: &[u8], at: usize) -> bool
+    requires { ⌜ at + 16 ≤ length (now blocks) ⌝ }
+    ensures { λ r. ⌜ ((k : ℕ) → at ≡ 16 * k → r ≡ recordSound (filesStore (now («file_records» .entry))) (now (blocks .entry)) k) ⌝ }
 {
-    let f = record_file(blocks, 16 * k);
+    let f = record_file(blocks, at);
     if f.0 == 0 {
-        return zeros_at(blocks, 16 * k, 16);
+        return zeros_at(blocks, at, 16);
     }
     if f.0 == 1 {
         return false;
@@ -484,15 +478,13 @@ fn record_sound(blocks: &[u8], file_records: &[u8], k: usize) -> bool
     if !in_use(file_records, f) {
         return false;
     }
-    is_written(blocks, 16 * k)
+    is_written(blocks, at)
 }
 
-// Whether what record k of the block table names, if it is a directory, is one deeper than a directory of some depth.
-fn one_deeper(blocks: &[u8], file_records: &[u8], depth: u8, k: usize) -> bool
-    requires { ⌜ 16 * k + 16 ≤ length (now blocks) ⌝ }
-    ensures { λ r. ⌜ r ≡ deeperThan (filesStore (now («file_records» .entry))) depth (entryAt (now (blocks .entry)) k .file) ⌝ }
+// Whether file f, if it is a directory, is one deeper than a directory of some depth.
+fn one_deeper(file_records: &[u8], depth: u8, f: FileNo) -> bool
+    ensures { λ r. ⌜ r ≡ deeperThan (filesStore (now («file_records» .entry))) depth (f .0) ⌝ }
 {
-    let f = record_file(blocks, 16 * k);
     if !is_directory(file_records, f) {
         return true;
     }
@@ -507,7 +499,7 @@ fn records_sound(blocks: &[u8], file_records: &[u8], starts: &[u16; 64], n: usiz
 {
     let mut i: usize = 0;
     while i < n {
-        if !record_sound(blocks, file_records, slot_at(starts, i)) {
+        if !record_sound(blocks, file_records, record_start(starts, i)) {
             return false;
         }
         i += 1;
@@ -520,13 +512,13 @@ fn name_new(blocks: &[u8], starts: &[u16; 64], i: usize) -> bool
     requires { ⌜ Within (now blocks) (now starts) (i + 1) ⌝ ∗ ⌜ Padded (now blocks) (now starts) (i + 1) ⌝ }
     ensures { λ r. ⌜ r ≡ newAt (now (blocks .entry)) (now (starts .entry)) i ⌝ }
 {
-    let at = 16 * slot_at(starts, i);
+    let at = record_start(starts, i);
     if zeros_at(blocks, at, 16) {
         return true;
     }
     let mut j: usize = 0;
     while j < i {
-        if same_name(blocks, 16 * slot_at(starts, j), at) {
+        if same_name(blocks, record_start(starts, j), at) {
             return false;
         }
         j += 1;
@@ -568,14 +560,14 @@ fn chain_new(blocks: &[u8], starts: &[u16; 64], links: &[u16; 2048], i: usize, l
     requires { ⌜ Within (now blocks) (now starts) (i + 1) ⌝ ∗ ⌜ Padded (now blocks) (now starts) (i + 1) ⌝ ∗ ⌜ Links (now blocks) (now starts) i (now links) ⌝ ∗ ⌜ Last (now blocks) (now starts) (chainAt (now blocks) (now starts) i) i last ⌝ }
     ensures { λ r. ⌜ r ≡ newAt (now (blocks .entry)) (now (starts .entry)) i ⌝ }
 {
-    let at = 16 * slot_at(starts, i);
+    let at = record_start(starts, i);
     if zeros_at(blocks, at, 16) {
         return true;
     }
     let mut next = last as usize;
     while 0 < next {
         let k = next - 1;
-        if same_name(blocks, 16 * slot_at(starts, k), at) {
+        if same_name(blocks, record_start(starts, k), at) {
             return false;
         }
         next = links[k] as usize;
@@ -592,7 +584,7 @@ fn names_chained(blocks: &[u8], starts: &[u16; 64], n: usize) -> bool
     let mut links: [u16; 2048] = [0; 2048];
     let mut i: usize = 0;
     while i < n {
-        let h = chain_of(blocks, 16 * slot_at(starts, i));
+        let h = chain_of(blocks, record_start(starts, i));
         let last = lasts[h];
         if !chain_new(blocks, starts, &links, i, last) {
             return false;
@@ -622,7 +614,8 @@ fn all_deeper(blocks: &[u8], file_records: &[u8], starts: &[u16; 64], n: usize, 
 {
     let mut i: usize = 0;
     while i < n {
-        if !one_deeper(blocks, file_records, depth, slot_at(starts, i)) {
+        let f = record_file(blocks, record_start(starts, i));
+        if !one_deeper(file_records, depth, f) {
             return false;
         }
         i += 1;
@@ -674,7 +667,7 @@ fn count_directory(blocks: &[u8], starts: &[u16; 64], n: usize, counts: &mut [u3
 {
     let mut i: usize = 0;
     while i < n {
-        let f = record_file(blocks, 16 * slot_at(starts, i));
+        let f = record_file(blocks, record_start(starts, i));
         let k = f.0 as usize;
         counts[k] += 1;
         i += 1;

@@ -18,7 +18,7 @@ ghost use Rattle.records.specs.Numbers.{zeros, withRecord};
 ghost use Rattle.meaning.specs.File.{needed};
 ghost use Rattle.meaning.specs.Tables.{blockCount, fileCount, channelCount, blockRecord, fileRecord, channelRecord, blockOf};
 ghost use Rattle.tables.specs.Read.{BlockRead, FileRead, ChannelRead};
-ghost use Rattle.tables.specs.Searches.{freeBlockCount, blockFound, fileWith, fileFound, filesWith, channelWith, channelFound, channelsWith};
+ghost use Rattle.tables.specs.Searches.{blocksWith, freeBlockCount, blockFound, fileWith, fileFound, filesWith, channelWith, channelFound, channelsWith};
 
 pub struct BlockRecord {
     pub owner: FileNo,
@@ -209,20 +209,28 @@ pub fn place_start(records: &[u8], f: FileNo, i: u16) -> usize
     block_start(held_block(records, f, i))
 }
 
+// How many blocks are place i of file f. Owner and place are compared as one number.
+pub fn count_blocks(records: &[u8], f: FileNo, i: u16) -> usize
+    ensures { λ r. ⌜ r ≡ blocksWith (now (records .entry)) (f .0) i ⌝ }
+{
+    let wanted = place_number(f, i);
+    let count = records.len() / 4;
+    let mut found: usize = 0;
+    let mut b = 0;
+    while b < count {
+        if four_at(records, 4 * b) == wanted {
+            found += 1;
+        }
+        b += 1;
+    }
+    found
+}
+
 // How many blocks are free.
 pub fn count_free_blocks(records: &[u8]) -> usize
     ensures { λ r. ⌜ r ≡ freeBlockCount (now (records .entry)) ⌝ }
 {
-    let count = records.len() / 4;
-    let mut free: usize = 0;
-    let mut b = 0;
-    while b < count {
-        if four_at(records, 4 * b) == 0 {
-            free += 1;
-        }
-        b += 1;
-    }
-    free
+    count_blocks(records, FileNo(0), 0)
 }
 
 // The lowest file of a kind, if there is one. Kind 0: the lowest free one. Record r is file r + 1's.

@@ -11,7 +11,7 @@ use Rattle.tables.specs.declared.FileRecord.{FileRecord}
 use Rattle.soundness.specs.Rules.{Counted, Countable}
 use Rattle.soundness.specs.Slots.{directoriesStore, Starts, Placed}
 use Rattle.soundness.specs.DirectoryRules.{directoriesRule}
-use Rattle.soundness.specs.DirectoryReads.{kind-read, size-read, few-places, starts-read}
+use Rattle.soundness.specs.DirectoryReads.{kind-read, size-read, findable, starts-read}
 use Rattle.soundness.specs.Counts.{Counts, counts-none, counts-more, countable}
 use borrow.Author.Needs.{needs}
 use Rattle.soundness.proofs.add_names.Statement.{statement}
@@ -52,7 +52,7 @@ find-blocks-requires : tie.Need-find-blocks-requires
 find-blocks-requires c κs =
     let d = c .before .before .before .before in
     let s = d .before .before .before .before in
-    few-places _ _ _ (s .pre .0) _ (s .pre .1 .0) _ (d .file-record .ensures) _ (c .places .ensures)
+    findable _ _ _ (s .pre .0) _ (s .pre .1 .0) _ (d .file-record .ensures) _ (c .places .ensures)
 
 count-directory-requires : tie.Need-count-directory-requires
 count-directory-requires c κs = search ready

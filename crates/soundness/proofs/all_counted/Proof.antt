@@ -1,5 +1,5 @@
 -- Each place of every file passed is counted once; the measure is how many files are left.
-use Prim.Native.Nat.{ℕ, suc, _-_, _/_, _≤_}
+use Prim.Native.Nat.{suc, _-_, _/_, _≤_}
 use mathlib.Core.Path.{_≡_, refl}
 use mathlib.Core.Bool.{true}
 use lib.ListN.{length}

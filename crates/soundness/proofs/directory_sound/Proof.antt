@@ -13,7 +13,7 @@ use Rattle.soundness.specs.Slots.{directoriesStore, Starts, Placed}
 use Rattle.soundness.specs.Chains.{Padded}
 use Rattle.soundness.specs.ChainLaws.{padded-sound}
 use Rattle.soundness.specs.DirectoryRules.{directoryRule, records-there, names-there, deepers-there}
-use Rattle.soundness.specs.DirectoryReads.{kind-read, depth-read, size-read, few-places, starts-read, within-read}
+use Rattle.soundness.specs.DirectoryReads.{kind-read, depth-read, size-read, findable, starts-read, within-read}
 use borrow.Author.Needs.{needs}
 use Rattle.soundness.proofs.directory_sound.Statement.{statement}
 use Rattle.soundness.proofs.directory_sound.Tie as tie
@@ -75,7 +75,7 @@ find-blocks-requires : tie.Need-find-blocks-requires
 find-blocks-requires c κs =
     let d = c .before .before .before .before in
     let s = d .before .before .before .before in
-    few-places _ _ _ (s .pre .0) _ (s .pre .1) _ (d .file-record .ensures) _ (c .places .ensures)
+    findable _ _ _ (s .pre .0) _ (s .pre .1) _ (d .file-record .ensures) _ (c .places .ensures)
 
 records-sound-requires : tie.Need-records-sound-requires
 records-sound-requires c κs = search within-read

@@ -7,9 +7,10 @@ use Rattle.meaning.specs.File.{needed}
 use Rattle.meaning.specs.Tables.{fileCount, fileLength}
 use Rattle.meaning.specs.Sound.{placedOnce}
 use Rattle.tables.specs.Read.{FileRead}
+use Rattle.tables.specs.Searches.{blocksWith}
 use Rattle.tables.specs.StoreLaws.{file-length}
 use Rattle.tables.specs.declared.FileRecord.{FileRecord}
-use Rattle.soundness.specs.Rules.{placeCount, placedBelow}
+use Rattle.soundness.specs.Rules.{placedBelow}
 use Rattle.soundness.specs.Seen.{recordTables}
 use borrow.Author.Needs.{needs}
 use Rattle.soundness.proofs.file_placed.Statement.{statement}
@@ -24,7 +25,7 @@ module _ (files : List ℕ) (f : ℕ) (asked : (0 < f) × (f ≤ fileCount files
   few = omega (arith, size, asked .2)
 
   placed : (records : List ℕ) (flag : Bool) → flag ≡ placedBelow records f n → flag ≡ placedOnce (recordTables records files) f
-  unfolding placedOnce placedBelow placeCount
+  unfolding placedOnce placedBelow blocksWith
   placed records flag is = is ∙ rw (n-is, size)
 
 file-record-requires : tie.Need-file-record-requires

@@ -1,44 +1,33 @@
-use Prim.Native.Nat.{ℕ, _+_, _-_, _*_}
-use mathlib.Core.Path.{_≡_, sym, ap, _∙_}
+use Prim.Native.Nat.{ℕ, _+_, _-_}
+use mathlib.Core.Path.{_≡_, sym, _∙_}
 use mathlib.Core.List.{List, []}
 use mathlib.Core.Bool.{Bool, true, false, not}
 use borrow.Author.Tests.{not-true, not-false}
 use lib.Dec.{eqb}
-use Rattle.meaning.specs.Name.{entryIn, entryAt}
 use Rattle.meaning.specs.Store.{isDirectory}
 use Rattle.meaning.specs.Tables.{tables}
 use Rattle.tables.specs.Read.{FileRead}
 use Rattle.tables.specs.StoreLaws.{store-depth}
 use Rattle.tables.specs.declared.FileRecord.{FileRecord}
-use Rattle.names.specs.RecordNames.{recordFrom, entry-at}
 use Rattle.soundness.specs.Rules.{deeperThan}
 use Rattle.soundness.specs.Seen.{filesStore, directory-there}
 use borrow.Author.Needs.{needs}
 use Rattle.soundness.proofs.one_deeper.Statement.{statement}
 use Rattle.soundness.proofs.one_deeper.Tie as tie
 
-module _ (blocks files : List ℕ) (depth k f : ℕ) (read : f ≡ entryIn (recordFrom blocks (16 * k)) .file) (flag : Bool) (is : flag ≡ isDirectory (filesStore files) f) where
+module _ (files : List ℕ) (depth f : ℕ) (flag : Bool) (is : flag ≡ isDirectory (filesStore files) f) where
   abbrev verdict : Bool
-  verdict = deeperThan (filesStore files) depth (entryAt blocks k .file)
-
-  named : entryAt blocks k .file ≡ f
-  named = ap (λ e. e .file) (entry-at blocks k) ∙ sym read
+  verdict = deeperThan (filesStore files) depth f
 
   no-directory : not flag ≡ true → true ≡ verdict
   unfolding deeperThan
-  no-directory n = rw (named, ← is, not-true flag n)
+  no-directory n = rw (← is, not-true flag n)
 
   a-directory : not flag ≡ false → (x : FileRecord) → FileRead files (f - 1) x → eqb (x .depth) (depth + 1) ≡ verdict
   unfolding deeperThan
   a-directory n x its =
       let deep : filesStore files .file f .depth ≡ x .depth = store-depth (tables [] [] files []) f (directory-there files f flag is n .0) ∙ sym (its .depth) in
-      rw (named, ← is, not-false flag n, deep)
-
-mul-record-file : tie.Need-mul-record-file
-mul-record-file c = search needs
-
-record-file-requires : tie.Need-record-file-requires
-record-file-requires c κs = search needs
+      rw (← is, not-false flag n, deep)
 
 is-directory-requires : tie.Need-is-directory-requires
 is-directory-requires c κs = search needs
@@ -62,8 +51,6 @@ pub one-deeper-spec : {M : Type 1} → statement M
 one-deeper-spec =
     tie.close
     (tie.spec
-    mul-record-file
-    record-file-requires
     is-directory-requires
     returns
     file-record-requires
