@@ -89,6 +89,16 @@ module _ (test : ℕ → Bool) (records : List ℕ) (d count k : ℕ) (left : pl
         let none : lowest n (λ x. test (recordPlace records d (32 * k + x))) ≡ n = omega (arith, same-run) in
         run-miss count (λ i. test (recordPlace records d i)) k n size more none left
 
+-- where the records of a directory lie, the first n of them lie
+pub lies-first : (blocks records : List ℕ) (d count : ℕ) → Lies blocks records d count → (n : ℕ) → n ≤ count → Lies blocks records d n
+lies-first blocks records d count lies n h =
+    record {
+      few-blocks = lies .few-blocks;
+      table = lies .table;
+      few = omega (arith, lies .few);
+      there = λ k (l : 32 * k < n). lies .there k (omega arith);
+    }
+
 -- a run has a block
 pub run-held : (blocks records : List ℕ) (d count k : ℕ) → Lies blocks records d count → 32 * k < count
     → (blockCount records ≤ 65536) × (blockOf records d k < blockCount records)

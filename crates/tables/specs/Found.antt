@@ -34,19 +34,20 @@ module _ (count r : ℕ) where
   unfolding fileFound
   file-nowhere h = rw (le-ltb r count h)
 
-  pub found-file : (f : FileNo) → file.the-variants.At f ≡ fileFound count r → (r < count) × (f .0 ≡ r + 1)
-  found-file f e =
-      ⊎-elim
-      (λ (h : r < count). (h, let same : f ≡ record { 0 = r + 1 } = cc (e, file-found r refl h) in ap (λ (x : FileNo). x .0) same))
-      (λ (h : count ≤ r). let z : _≡_ {A = ℕ} 0 1 = cc (e, file-nowhere h) in absurd (omega arith))
-      (lt-or-ge r count)
+  module _ (x : file.FoundFile) (is : x ≡ fileFound count r) where
+    pub found-file : (f : FileNo) → x ≡ file.the-variants.At f → (r < count) × (f .0 ≡ r + 1)
+    found-file f e =
+        ⊎-elim
+        (λ (h : r < count). (h, let same : f ≡ record { 0 = r + 1 } = cc (is, e, file-found r refl h) in ap (λ (n : FileNo). n .0) same))
+        (λ (h : count ≤ r). let z : _≡_ {A = ℕ} 0 1 = cc (is, e, file-nowhere h) in absurd (omega arith))
+        (lt-or-ge r count)
 
-  pub no-file : file.the-variants.Nowhere ≡ fileFound count r → count ≤ r
-  no-file e =
-      ⊎-elim
-      (λ (h : r < count). let z : _≡_ {A = ℕ} 0 1 = cc (e, file-found r refl h) in absurd (omega arith))
-      (λ (h : count ≤ r). h)
-      (lt-or-ge r count)
+    pub no-file : x ≡ file.the-variants.Nowhere → count ≤ r
+    no-file e =
+        ⊎-elim
+        (λ (h : r < count). let z : _≡_ {A = ℕ} 0 1 = cc (is, e, file-found r refl h) in absurd (omega arith))
+        (λ (h : count ≤ r). h)
+        (lt-or-ge r count)
 
 -- ---- a channel
 
@@ -59,16 +60,17 @@ module _ (count c : ℕ) where
   unfolding channelFound
   channel-nowhere h = rw (le-ltb c count h)
 
-  pub found-channel : (x : ChannelNo) → channel.the-variants.At x ≡ channelFound count c → (c < count) × (x .0 ≡ c)
-  found-channel x e =
-      ⊎-elim
-      (λ (h : c < count). (h, let same : x ≡ record { 0 = c } = cc (e, channel-found c refl h) in ap (λ (x : ChannelNo). x .0) same))
-      (λ (h : count ≤ c). let z : _≡_ {A = ℕ} 0 1 = cc (e, channel-nowhere h) in absurd (omega arith))
-      (lt-or-ge c count)
+  module _ (x : channel.FoundChannel) (is : x ≡ channelFound count c) where
+    pub found-channel : (k : ChannelNo) → x ≡ channel.the-variants.At k → (c < count) × (k .0 ≡ c)
+    found-channel k e =
+        ⊎-elim
+        (λ (h : c < count). (h, let same : k ≡ record { 0 = c } = cc (is, e, channel-found c refl h) in ap (λ (n : ChannelNo). n .0) same))
+        (λ (h : count ≤ c). let z : _≡_ {A = ℕ} 0 1 = cc (is, e, channel-nowhere h) in absurd (omega arith))
+        (lt-or-ge c count)
 
-  pub no-channel : channel.the-variants.Nowhere ≡ channelFound count c → count ≤ c
-  no-channel e =
-      ⊎-elim
-      (λ (h : c < count). let z : _≡_ {A = ℕ} 0 1 = cc (e, channel-found c refl h) in absurd (omega arith))
-      (λ (h : count ≤ c). h)
-      (lt-or-ge c count)
+    pub no-channel : x ≡ channel.the-variants.Nowhere → count ≤ c
+    no-channel e =
+        ⊎-elim
+        (λ (h : c < count). let z : _≡_ {A = ℕ} 0 1 = cc (is, e, channel-found c refl h) in absurd (omega arith))
+        (λ (h : count ≤ c). h)
+        (lt-or-ge c count)
