@@ -8,7 +8,7 @@ use lib.ListN.{length, getD}
 use lib.Dec.{eqb}
 use Rattle.records.specs.Rows.{pick, every, howMany, sum}
 use Rattle.records.specs.RowLaws.{every-all}
-use Rattle.records.specs.LoopLaws.{sum-start, howMany-within}
+use Rattle.records.specs.LoopLaws.{sum-start, sum-step, howMany-within}
 use Rattle.records.specs.Tests.{and-left}
 use Rattle.meaning.specs.File.{needed}
 use Rattle.meaning.specs.Name.{recordCount, entryAt, namesIn}
@@ -41,9 +41,10 @@ counts-start s counts size none = record { size = size; each = λ f h. none f h 
 
 -- one file more
 names-step : (s : Store) (d f : ℕ) → 0 < d → sum d (λ i. namesOf s (suc i) f) ≡ sum (d - 1) (λ i. namesOf s (suc i) f) + namesOf s d f
-unfolding sum
-names-step s zero f some = absurd (omega arith)
-names-step s (suc r) f some = let e : suc r - 1 ≡ r = omega arith in rw e
+names-step s d f some =
+    let e : d - 1 + 1 ≡ d = omega arith in
+    let n : suc (d - 1) ≡ d = omega arith in
+    rw (e, n) at (sum-step (λ i. namesOf s (suc i) f) (d - 1))
 
 sum-within : (n : ℕ) (g : ℕ → ℕ) → ((i : ℕ) → i < n → g i ≤ 2048) → sum n g ≤ 2048 * n
 unfolding sum
