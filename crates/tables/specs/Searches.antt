@@ -5,7 +5,7 @@ use mathlib.Core.Bool.{Bool}
 use lib.Dec.{eqb, ltb}
 use Rattle.records.specs.Rows.{pick, lowest, howMany, sum}
 use Rattle.meaning.specs.File.{needed}
-use Rattle.meaning.specs.Tables.{blockCount, fileCount, channelCount, kindAt, lengthAt, channelFileAt, isFree}
+use Rattle.meaning.specs.Tables.{blockCount, fileCount, channelCount, kindAt, lengthAt, channelFileAt, holds, isFree}
 use Rattle.tables.specs.declared.FoundBlock as block
 use Rattle.tables.specs.declared.FoundFile as file
 use Rattle.tables.specs.declared.FoundChannel as channel
@@ -20,6 +20,10 @@ fileFound count r = pick (ltb r count) (file.the-variants.At (record { 0 = r + 1
 
 unfoldable pub channelFound : ℕ → ℕ → channel.FoundChannel
 channelFound count c = pick (ltb c count) (channel.the-variants.At (record { 0 = c })) channel.the-variants.Nowhere
+
+-- how many blocks are place i of file f
+unfoldable pub blocksWith : List ℕ → ℕ → ℕ → ℕ
+blocksWith records f i = howMany (blockCount records) (λ b. holds records f i b)
 
 -- how many blocks are free
 unfoldable pub freeBlockCount : List ℕ → ℕ

@@ -9,14 +9,16 @@ use records::put_four;
 use records::put_one;
 use records::put_two;
 use records::two_at;
+use records::zeros_at;
 ghost use mathlib.Core.Path.{_≡_};
 ghost use Prim.Native.Nat.{_+_, _-_, _*_, _≤_, _<_};
 ghost use lib.ListN.{length};
 ghost use lib.Dec.{ltb};
-ghost use Rattle.records.specs.Numbers.{withRecord};
+ghost use Rattle.records.specs.Numbers.{zeros, withRecord};
+ghost use Rattle.meaning.specs.File.{needed};
 ghost use Rattle.meaning.specs.Tables.{blockCount, fileCount, channelCount, blockRecord, fileRecord, channelRecord, blockOf};
 ghost use Rattle.tables.specs.Read.{BlockRead, FileRead, ChannelRead};
-ghost use Rattle.tables.specs.Searches.{freeBlockCount, blockFound, fileWith, fileFound, filesWith, channelWith, channelFound, channelsWith};
+ghost use Rattle.tables.specs.Searches.{blocksWith, freeBlockCount, blockFound, fileWith, fileFound, filesWith, channelWith, channelFound, channelsWith};
 
 pub struct BlockRecord {
     pub owner: FileNo,
@@ -70,6 +72,38 @@ pub fn channel_record(records: &[u8], c: ChannelNo) -> ChannelRecord
     let file = FileNo(two_at(records, at));
     let position = four_at(records, at + 4);
     ChannelRecord { file, position }
+}
+
+// Whether the two zeros of record r stand, in a table of records of 8 bytes.
+fn zeros_of(records: &[u8], r: usize) -> bool
+    requires { ⌜ r < fileCount (now records) ⌝ }
+    ensures { λ b. ⌜ b ≡ zeros (now (records .entry)) (8 * r + 2) 2 ⌝ }
+{
+    zeros_at(records, 8 * r + 2, 2)
+}
+
+// Whether the two zeros of file f's record stand.
+pub fn file_zeros(records: &[u8], f: FileNo) -> bool
+    requires { ⌜ (0 < f .0) × (f .0 ≤ fileCount (now records)) ⌝ }
+    ensures { λ b. ⌜ b ≡ zeros (now (records .entry)) (8 * (f .0 - 1) + 2) 2 ⌝ }
+{
+    zeros_of(records, f.0 as usize - 1)
+}
+
+// Whether the two zeros of channel c's record stand.
+pub fn channel_zeros(records: &[u8], c: ChannelNo) -> bool
+    requires { ⌜ c .0 < channelCount (now records) ⌝ }
+    ensures { λ b. ⌜ b ≡ zeros (now (records .entry)) (8 * c .0 + 2) 2 ⌝ }
+{
+    zeros_of(records, c.0 as usize)
+}
+
+// How many places a file of n bytes has.
+pub fn places(n: usize) -> usize
+    requires { ⌜ n ≤ 4294967295 ⌝ }
+    ensures { λ r. ⌜ r ≡ needed n ⌝ }
+{
+    (n + 511) / 512
 }
 
 // Block b's record written.
@@ -175,20 +209,28 @@ pub fn place_start(records: &[u8], f: FileNo, i: u16) -> usize
     block_start(held_block(records, f, i))
 }
 
+// How many blocks are place i of file f. Owner and place are compared as one number.
+pub fn count_blocks(records: &[u8], f: FileNo, i: u16) -> usize
+    ensures { λ r. ⌜ r ≡ blocksWith (now (records .entry)) (f .0) i ⌝ }
+{
+    let wanted = place_number(f, i);
+    let count = records.len() / 4;
+    let mut found: usize = 0;
+    let mut b = 0;
+    while b < count {
+        if four_at(records, 4 * b) == wanted {
+            found += 1;
+        }
+        b += 1;
+    }
+    found
+}
+
 // How many blocks are free.
 pub fn count_free_blocks(records: &[u8]) -> usize
     ensures { λ r. ⌜ r ≡ freeBlockCount (now (records .entry)) ⌝ }
 {
-    let count = records.len() / 4;
-    let mut free: usize = 0;
-    let mut b = 0;
-    while b < count {
-        if four_at(records, 4 * b) == 0 {
-            free += 1;
-        }
-        b += 1;
-    }
-    free
+    count_blocks(records, FileNo(0), 0)
 }
 
 // The lowest file of a kind, if there is one. Kind 0: the lowest free one. Record r is file r + 1's.

@@ -7,11 +7,14 @@ use native.Mathlib.Omega.{arith}
 use lib.ListN.{length, set}
 use lib.Seq.{getD-set-same, getD-set-other}
 use Rattle.records.specs.Tests.{same-or-not}
-use Rattle.meaning.specs.Tables.{blockOf}
-use Rattle.soundness.specs.Slots.{Starts}
+use Rattle.meaning.specs.Tables.{blockCount, blockOf}
+use Rattle.soundness.specs.Slots.{Findable, Starts}
 use borrow.Author.Needs.{needs}
 use Rattle.soundness.proofs.find_blocks.Statement.{statement}
 use Rattle.soundness.proofs.find_blocks.Tie as tie
+
+there : (records : List ℕ) (f n : ℕ) → Findable records f n → (p : ℕ) → p < n → (blockCount records ≤ 65536) × (blockOf records f p < blockCount records)
+there records f n can p h = (omega (arith, can .few-blocks), can .there p h)
 
 none : (records : List ℕ) (f : ℕ) (starts : List ℕ) → Starts records f 0 starts
 none records f starts = record { each = λ p h. absurd (omega arith) }
@@ -38,11 +41,11 @@ abbrev μ-loop : tie.MeasureT-loop
 loop-holds : tie.Need-loop-holds Inv-loop μ-loop
 loop-holds c = (search needs, refl, none _ _ _)
 
-cast-block-number : tie.Need-cast-block-number Inv-loop μ-loop
-cast-block-number c = search needs
+cast-held-block : tie.Need-cast-held-block Inv-loop μ-loop
+cast-held-block c = search needs
 
-block-number-requires : tie.Need-block-number-requires Inv-loop μ-loop
-block-number-requires c κs = search needs
+held-block-requires : tie.Need-held-block-requires Inv-loop μ-loop
+held-block-requires c κs = there _ _ _ (c .before .before .before .pre) _ (search needs)
 
 mul-starts : tie.Need-mul-starts Inv-loop μ-loop
 mul-starts c = search needs
@@ -57,7 +60,7 @@ loop-less : tie.Need-loop-less Inv-loop μ-loop
 loop-less c = search needs
 
 loop-again : tie.Need-loop-again Inv-loop μ-loop
-loop-again c = (search needs, search needs, one-more _ _ _ _ (search needs) (c .before .before .loop .inv .2) _ (c .block-number .ensures))
+loop-again c = (search needs, search needs, one-more _ _ _ _ (search needs) (c .before .before .loop .inv .2) _ (c .held-block .ensures))
 
 returns : tie.Need-returns Inv-loop μ-loop
 returns c = search (all, needs)
@@ -69,8 +72,8 @@ find-blocks-spec =
     Inv-loop
     μ-loop
     loop-holds
-    cast-block-number
-    block-number-requires
+    cast-held-block
+    held-block-requires
     mul-starts
     array-write-starts
     add-p
