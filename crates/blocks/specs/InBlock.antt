@@ -84,6 +84,7 @@ pub housed-part : (blocks next records : List ℕ) (f at n at′ n′ : ℕ) →
     → at ≤ at′ → at′ + n′ ≤ at + n → Housed next records f at′ n′
 housed-part blocks next records f at n at′ n′ h e low high =
     record {
+      few = h .few;
       near = λ k (l : at′ ≤ k) (u : k < at′ + n′). h .near k (omega arith) (omega arith);
       whole = e ∙ h .whole;
       each = λ k (l : at′ ≤ k) (u : k < at′ + n′). h .each k (omega arith) (omega arith);
@@ -100,23 +101,34 @@ place-fits blocks records f k n bytes start h =
     let l : k < 65536 = h .housed .near k (omega arith) (omega (arith, h .some)) in
     record { fits = omega arith }
 
-module _ (blocks records : List ℕ) (f k n : ℕ) (bytes : List ℕ) (start : ℕ) (moving : Moving blocks records f k n bytes start)
-    (b : ℕ) (is-b : b ≡ blockOf records f (k / 512)) (m : ℕ) (is-m : m ≡ inBlock k n) where
-  run-length : length (take m (drop start bytes)) ≡ m
-  run-length = simp (length-take, length-drop) (omega (arith, moving .within))
+module _ (blocks records : List ℕ) (f k n : ℕ) (bytes : List ℕ) (start : ℕ) (moving : Moving blocks records f k n bytes start) where
+  -- the block of the run's bytes
+  pub moving-held : (blockCount records ≤ 65536) × (blockOf records f (k / 512) < blockCount records)
+  moving-held =
+      let one : howMany (blockCount records) (λ b. holds records f (k / 512) b) ≡ 1 = moving .housed .each k (omega arith) (omega (arith, moving .some)) in
+      (omega (arith, moving .housed .few), some-block records f (k / 512) (omega arith))
 
-  run-housed : Housed blocks records f k (length (take m (drop start bytes)))
-  run-housed = housed-part blocks blocks records f k n k (length (take m (drop start bytes))) (moving .housed) refl (omega arith) (omega (arith, run-length))
+  module _ (place : ℕ) (is-place : place ≡ 512 * blockOf records f (k / 512)) (m : ℕ) (is-m : m ≡ inBlock k n) where
+    run-length : length (take m (drop start bytes)) ≡ m
+    run-length = simp (length-take, length-drop) (omega (arith, moving .within))
 
-  pub moving-fits : 512 * b + k % 512 + m ≤ length blocks
-  moving-fits =
-      omega (arith, run-length, run-in blocks records f k (take m (drop start bytes)) run-housed (omega (arith, run-length)) b is-b (omega (arith, run-length, moving .some)))
+    run-housed : Housed blocks records f k (length (take m (drop start bytes)))
+    run-housed = housed-part blocks blocks records f k n k (length (take m (drop start bytes))) (moving .housed) refl (omega arith) (omega (arith, run-length))
 
-  pub moving-laid : (next : List ℕ) → next ≡ sets blocks (512 * b + k % 512) (take m (drop start bytes))
-      → next ≡ laidRun blocks records f k (take (inBlock k n) (drop start bytes))
-  moving-laid next e =
-      e ∙ laidRun-block blocks records f k (take m (drop start bytes)) run-housed (omega (arith, run-length)) b is-b (omega (arith, run-length, moving .some))
-      ∙ ap (λ (m : ℕ). laidRun blocks records f k (take m (drop start bytes))) is-m
+    pub moving-fits : place + k % 512 + m ≤ length blocks
+    moving-fits =
+        omega (
+          arith,
+          run-length,
+          run-in blocks records f k (take m (drop start bytes)) run-housed (omega (arith, run-length)) (blockOf records f (k / 512)) refl (omega (arith, run-length, moving .some)),
+        )
+
+    pub moving-laid : (next : List ℕ) → next ≡ sets blocks (place + k % 512) (take m (drop start bytes))
+        → next ≡ laidRun blocks records f k (take (inBlock k n) (drop start bytes))
+    moving-laid next e =
+        let e′ : next ≡ sets blocks (512 * blockOf records f (k / 512) + k % 512) (take m (drop start bytes)) = rw is-place at e in
+        e′ ∙ laidRun-block blocks records f k (take m (drop start bytes)) run-housed (omega (arith, run-length)) (blockOf records f (k / 512)) refl (omega (arith, run-length, moving .some))
+        ∙ ap (λ (m : ℕ). laidRun blocks records f k (take m (drop start bytes))) is-m
 
 -- a run laid part by part: so far, the first `done` bytes of it
 module _ (blocks records : List ℕ) (f at : ℕ) (bytes : List ℕ) where

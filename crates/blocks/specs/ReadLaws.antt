@@ -58,26 +58,26 @@ module _ (blocks records : List ℕ) (f : ℕ) where
           (lt-or-ge j n)
 
   -- a run within one block
-  pub runOf-block : (k m b : ℕ) → k % 512 + m ≤ 512 → b ≡ blockOf records f (k / 512) → 512 * b + k % 512 + m ≤ length blocks
-      → take m (drop (512 * b + k % 512) blocks) ≡ runOf blocks records f k m
+  pub runOf-block : (k m place : ℕ) → k % 512 + m ≤ 512 → place ≡ 512 * blockOf records f (k / 512) → place + k % 512 + m ≤ length blocks
+      → take m (drop (place + k % 512) blocks) ≡ runOf blocks records f k m
   unfolding byteIn one
-  runOf-block k m b short is fits =
-      is-runOf k m (take m (drop (512 * b + k % 512) blocks)) (simp (length-take, length-drop) (omega arith)) byte
+  runOf-block k m place short is fits =
+      is-runOf k m (take m (drop (place + k % 512) blocks)) (simp (length-take, length-drop) (omega arith)) byte
     where
-      byte : (j : ℕ) → j < m → getD (take m (drop (512 * b + k % 512) blocks)) j 0 ≡ byteIn blocks records f (k + j)
+      byte : (j : ℕ) → j < m → getD (take m (drop (place + k % 512) blocks)) j 0 ≡ byteIn blocks records f (k + j)
       byte j h =
           let d : (k + j) / 512 ≡ k / 512 = omega arith in
-          let e : 512 * b + k % 512 + j ≡ 512 * b + (k + j) % 512 = omega arith in
+          let e : place + k % 512 + j ≡ place + (k + j) % 512 = omega arith in
           rw (d, ← is, getD-take, getD-drop, e)
 
 -- ---- as the code meets them
 
 module _ (blocks records : List ℕ) (f k n : ℕ) (out : List ℕ) (start : ℕ) (moving : Moving blocks records f k n out start)
-    (b : ℕ) (is-b : b ≡ blockOf records f (k / 512)) (m : ℕ) (is-m : m ≡ inBlock k n) where
-  pub moving-read : (next : List ℕ) → next ≡ sets out start (take m (drop (512 * b + k % 512) blocks))
+    (place : ℕ) (is-place : place ≡ 512 * blockOf records f (k / 512)) (m : ℕ) (is-m : m ≡ inBlock k n) where
+  pub moving-read : (next : List ℕ) → next ≡ sets out start (take m (drop (place + k % 512) blocks))
       → next ≡ sets out start (runOf blocks records f k (inBlock k n))
   moving-read next e =
-      e ∙ ap (sets out start) (runOf-block blocks records f k m b (omega arith) is-b (moving-fits blocks records f k n out start moving b is-b m is-m))
+      e ∙ ap (sets out start) (runOf-block blocks records f k m place (omega arith) is-place (moving-fits blocks records f k n out start moving place is-place m is-m))
       ∙ ap (λ (m : ℕ). sets out start (runOf blocks records f k m)) is-m
 
 -- a run read part by part: so far, the first `done` bytes of it

@@ -24,8 +24,9 @@ laidRun blocks records f at bytes =
     listOf (length blocks) λ k.
     pick (inRun records f at (length bytes) k) (one bytes (byteNo records k - at)) (one blocks k)
 
--- each of n bytes of file f, from byte `at` on, has exactly one block
+-- each of n bytes of file f, from byte `at` on, has exactly one block, of no more blocks than 01 allows
 pub record Housed (blocks records : List ℕ) (f at n : ℕ) : Type 0 where
+  pub few : blockCount records ≤ 128
   pub near : (k : ℕ) → at ≤ k → k < at + n → k < 65536
   pub whole : length blocks ≡ 512 * blockCount records
   pub each : (k : ℕ) → at ≤ k → k < at + n → howMany (blockCount records) (λ b. holds records f (k / 512) b) ≡ 1

@@ -1,9 +1,10 @@
 // A file's blocks: places taken and let go, and bytes moved in runs, each within one block.
+use meaning::BLOCK_SIZE;
 use meaning::BlockNo;
 use meaning::FileNo;
 use tables::BlockRecord;
 use tables::block_record;
-use tables::find_block;
+use tables::place_start;
 use tables::put_block_record;
 ghost use mathlib.Core.Path.{_≡_};
 ghost use Prim.Native.Nat.{_+_, _-_, _≤_, _<_};
@@ -89,7 +90,7 @@ pub fn copy_run(from: &[u8], start: usize, n: usize, to: &mut [u8], at: usize)
 fn in_block(k: usize, n: usize) -> usize
     ensures { λ r. ⌜ r ≡ inBlock k n ⌝ }
 {
-    let rest = 512 - k % 512;
+    let rest = BLOCK_SIZE - k % BLOCK_SIZE;
     if rest < n { rest } else { n }
 }
 
@@ -109,8 +110,8 @@ fn lay_in_block(
     ensures { λ r. ⌜ now (blocks .exit) ≡ laidRun (now (blocks .entry)) (now («block_records» .entry)) (f .0) k (take (inBlock k n) (drop start (now («data» .entry)))) ⌝ }
 {
     let m = in_block(k, n);
-    let b = find_block(block_records, f, (k / 512) as u16);
-    copy_run(data, start, m, blocks, 512 * b + k % 512);
+    let place = place_start(block_records, f, (k / BLOCK_SIZE) as u16);
+    copy_run(data, start, m, blocks, place + k % BLOCK_SIZE);
     m
 }
 
@@ -131,7 +132,7 @@ pub fn fill_gap(blocks: &mut [u8], block_records: &[u8], f: FileNo, at: usize, n
     requires { ⌜ Housed (now blocks) (now «block_records») (f .0) at n ⌝ }
     ensures { λ r. ⌜ now (blocks .exit) ≡ laidRun (now (blocks .entry)) (now («block_records» .entry)) (f .0) at (replicate n 0) ⌝ }
 {
-    let blank = [0u8; 512];
+    let blank = [0u8; BLOCK_SIZE];
     let mut done = 0;
     while done < n {
         done += lay_in_block(blocks, block_records, f, at + done, n - done, &blank, 0);
@@ -154,8 +155,8 @@ fn read_in_block(
     ensures { λ r. ⌜ now (out .exit) ≡ sets (now (out .entry)) start (runOf (now (blocks .entry)) (now («block_records» .entry)) (f .0) k (inBlock k n)) ⌝ }
 {
     let m = in_block(k, n);
-    let b = find_block(block_records, f, (k / 512) as u16);
-    copy_run(blocks, 512 * b + k % 512, m, out, start);
+    let place = place_start(block_records, f, (k / BLOCK_SIZE) as u16);
+    copy_run(blocks, place + k % BLOCK_SIZE, m, out, start);
     m
 }
 

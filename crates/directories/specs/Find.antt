@@ -11,8 +11,9 @@ use Rattle.meaning.specs.Tables.{blockCount, blockOf}
 use Rattle.names.specs.RecordNames.{recordFrom}
 use Rattle.directories.specs.Places.{recordPlace}
 
--- the `count` records of directory d lie in the block table: each run of 32 has a block
+-- the `count` records of directory d lie in the block table: each run of 32 has a block, and there are no more blocks than 01 allows
 pub record Lies (blocks records : List ℕ) (d count : ℕ) : Type 0 where
+  pub few-blocks : blockCount records ≤ 128
   pub table : length blocks ≡ 512 * blockCount records
   pub few : count ≤ 2048
   pub there : (k : ℕ) → 32 * k < count → blockOf records d k < blockCount records

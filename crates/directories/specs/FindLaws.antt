@@ -10,7 +10,7 @@ use Rattle.records.specs.RowLaws.{lowest-cong, lowest-within}
 use Rattle.records.specs.LoopLaws.{search-start, search-found, search-passed, search-none}
 use Rattle.records.specs.Numbers.{zeros}
 use Rattle.meaning.specs.Name.{same, entryIn}
-use Rattle.meaning.specs.Tables.{blockOf}
+use Rattle.meaning.specs.Tables.{blockCount, blockOf}
 use Rattle.names.specs.RecordNames.{recordFrom}
 use Rattle.directories.specs.Places.{recordPlace}
 use Rattle.directories.specs.Runs.{leftFrom, run-start, run-hit, run-miss, run-end}
@@ -51,10 +51,10 @@ module _ (test : ℕ → Bool) (at n j : ℕ) (left : runLowest test at n ≡ le
 
 -- ---- run by run
 
--- record x of run k lies at 16 * x in its block
-pub run-place : (records : List ℕ) (d k b : ℕ) → b ≡ blockOf records d k → (x : ℕ) → x < 32 → recordPlace records d (32 * k + x) ≡ 512 * b + 16 * x
+-- record x of run k lies at 16 * x in its block, whose bytes start at a place
+pub run-place : (records : List ℕ) (d k at : ℕ) → at ≡ 512 * blockOf records d k → (x : ℕ) → x < 32 → recordPlace records d (32 * k + x) ≡ at + 16 * x
 unfolding recordPlace
-run-place records d k b block x l =
+run-place records d k start block x l =
     let run : (32 * k + x) / 32 ≡ k = omega arith in
     let at : (32 * k + x) % 32 ≡ x = omega arith in
     rw (run, at, block)
@@ -73,10 +73,10 @@ module _ (test : ℕ → Bool) (records : List ℕ) (d count k : ℕ) (left : pl
   unfolding placeLowest
   places-none h = sym (run-end count (λ i. test (recordPlace records d i)) k h left)
 
-  module _ (b : ℕ) (block : b ≡ blockOf records d k) (more : 32 * k < count) (n : ℕ) (size : n ≡ min 32 (count - 32 * k)) (j : ℕ) (is : j ≡ runLowest test (512 * b) n) where
+  module _ (at : ℕ) (block : at ≡ 512 * blockOf records d k) (more : 32 * k < count) (n : ℕ) (size : n ≡ min 32 (count - 32 * k)) (j : ℕ) (is : j ≡ runLowest test at n) where
     same-run : j ≡ lowest n (λ x. test (recordPlace records d (32 * k + x)))
     unfolding runLowest
-    same-run = is ∙ lowest-cong n (λ x. test (512 * b + 16 * x)) (λ x. test (recordPlace records d (32 * k + x))) (λ x (l : x < n). ap test (sym (run-place records d k b block x (omega arith))))
+    same-run = is ∙ lowest-cong n (λ x. test (at + 16 * x)) (λ x. test (recordPlace records d (32 * k + x))) (λ x (l : x < n). ap test (sym (run-place records d k at block x (omega arith))))
 
     pub places-found : j < n → 32 * k + j ≡ placeLowest test records d count
     unfolding placeLowest
@@ -89,10 +89,25 @@ module _ (test : ℕ → Bool) (records : List ℕ) (d count k : ℕ) (left : pl
         let none : lowest n (λ x. test (recordPlace records d (32 * k + x))) ≡ n = omega (arith, same-run) in
         run-miss count (λ i. test (recordPlace records d i)) k n size more none left
 
--- a run lies within the block table
-module _ (blocks records : List ℕ) (d count k : ℕ) (lies : Lies blocks records d count) (b : ℕ) (block : b ≡ blockOf records d k) (more : 32 * k < count) where
-  pub block-inside : 512 * b + 512 ≤ length blocks
+-- where the records of a directory lie, the first n of them lie
+pub lies-first : (blocks records : List ℕ) (d count : ℕ) → Lies blocks records d count → (n : ℕ) → n ≤ count → Lies blocks records d n
+lies-first blocks records d count lies n h =
+    record {
+      few-blocks = lies .few-blocks;
+      table = lies .table;
+      few = omega (arith, lies .few);
+      there = λ k (l : 32 * k < n). lies .there k (omega arith);
+    }
+
+-- a run has a block
+pub run-held : (blocks records : List ℕ) (d count k : ℕ) → Lies blocks records d count → 32 * k < count
+    → (blockCount records ≤ 65536) × (blockOf records d k < blockCount records)
+run-held blocks records d count k lies more = (omega (arith, lies .few-blocks), lies .there k more)
+
+-- and lies within the block table
+module _ (blocks records : List ℕ) (d count k : ℕ) (lies : Lies blocks records d count) (at : ℕ) (block : at ≡ 512 * blockOf records d k) (more : 32 * k < count) where
+  pub block-inside : at + 512 ≤ length blocks
   block-inside = omega (arith, lies .there k more, lies .table)
 
-  pub run-inside : (n : ℕ) → n ≡ min 32 (count - 32 * k) → (512 * b + 16 * n ≤ length blocks) × (n ≤ 32)
+  pub run-inside : (n : ℕ) → n ≡ min 32 (count - 32 * k) → (at + 16 * n ≤ length blocks) × (n ≤ 32)
   run-inside n size = omega (arith, block-inside)

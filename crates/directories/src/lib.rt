@@ -1,8 +1,8 @@
 // Directories: finding records in the blocks of a directory. Laws of records are in specs/.
 use meaning::FileNo;
-use names::is_blank;
 use names::names_record;
-use tables::find_block;
+use records::zeros_at;
+use tables::place_start;
 ghost use mathlib.Core.Path.{_≡_};
 ghost use Prim.Native.Nat.{_+_, _-_, _*_, _≤_, _<_, min};
 ghost use lib.ListN.{length};
@@ -38,7 +38,7 @@ fn find_blank_in_run(blocks: &[u8], at: usize, n: usize) -> usize
 {
     let mut j = 0;
     while j < n {
-        if is_blank(blocks, at + 16 * j) {
+        if zeros_at(blocks, at + 16 * j, 16) {
             return j;
         }
         j += 1;
@@ -73,9 +73,9 @@ pub fn find_named(
 {
     let mut k = 0;
     while 32 * k < count {
-        let b = find_block(block_records, d, k as u16);
+        let at = place_start(block_records, d, k as u16);
         let n = run_size(count, k);
-        let j = find_named_in_run(blocks, 512 * b, n, name, from, to);
+        let j = find_named_in_run(blocks, at, n, name, from, to);
         if j < n {
             return 32 * k + j;
         }
@@ -91,9 +91,9 @@ pub fn find_blank(blocks: &[u8], block_records: &[u8], d: FileNo, count: usize) 
 {
     let mut k = 0;
     while 32 * k < count {
-        let b = find_block(block_records, d, k as u16);
+        let at = place_start(block_records, d, k as u16);
         let n = run_size(count, k);
-        let j = find_blank_in_run(blocks, 512 * b, n);
+        let j = find_blank_in_run(blocks, at, n);
         if j < n {
             return 32 * k + j;
         }

@@ -65,6 +65,7 @@ module _ (t : Tables) (L : Layout t) (f size : ℕ) (some : 0 < f) (last : f ≤
     pub grown-housed : Housed (t .blocks) grown f 0 size
     grown-housed =
         record {
+          few = rw count-grown (L .lengths .few-blocks);
           near = λ k l (u : k < 0 + size). omega (arith, near-end);
           whole = L .lengths .blocks ∙ ap (λ (n : ℕ). 512 * n) (sym count-grown);
           each = λ k l (u : k < 0 + size). rw (count-grown, ← resized-grown) (placed t L f size (omega arith) last room .own (k / 512) (omega arith));

@@ -16,7 +16,10 @@ use Rattle.meaning.specs.Result.{Result, refused, done, unless, missing, nowher
 use Rattle.meaning.specs.Run.{Call, resultOf, meaning, accepts}
 use Rattle.meaning.specs.declared.Report.{Report}
 use Rattle.meaning.specs.declared.Report.the-variants.{BadName, NoSuchName, NameInUse, NoFreeFids}
-use Rattle.tables.specs.Searches.{fileWith, freeBlockCount}
+use Rattle.meaning.specs.declared.FileNo.{FileNo}
+use Rattle.tables.specs.declared.FoundFile.{FoundFile}
+use Rattle.tables.specs.declared.FoundFile.the-variants as N
+use Rattle.tables.specs.Searches.{fileWith, fileFound, freeBlockCount}
 use Rattle.soundness.specs.Seen.{filesStore}
 use Rattle.naming.specs.Judged.{Spelled, OnName, onNameOf, refuses, gives}
 use Rattle.naming.specs.At.{At, follows, is-missing, not-missing, is-nowhere, somewhere, there}
@@ -78,15 +81,16 @@ module _ (t : Tables) (bytes : List ℕ) (k : ℕ) (x : Located) (a : At t bytes
       unfolding unless
       no-directory e = record { means = rw (not-deep, is-nowhere t bytes k x a none e) at given; inside = tt }
 
-      module _ (is : isDirectory (filesStore (t .fileRecords)) (x .parent .0) ≡ true) (r : ℕ) (free : r ≡ fileWith (t .fileRecords) 0) where
+      module _ (is : isDirectory (filesStore (t .fileRecords)) (x .parent .0) ≡ true)
+          (z : FoundFile) (free : z ≡ fileFound (fileCount (t .fileRecords)) (fileWith (t .fileRecords) 0)) where
         pub here : nowhere s (a .name) ≡ false
         here = somewhere t bytes k x a none is
 
-        pub no-file : r ≡ fileCount (t .fileRecords) → Made t bytes (No NoFreeFids)
+        pub no-file : z ≡ N.Nowhere → Made t bytes (No NoFreeFids)
         unfolding unless
-        no-file e = record { means = rw (not-deep, here, is-missing t bytes k x a none, no-file-free t r free e) at given; inside = tt }
+        no-file e = record { means = rw (not-deep, here, is-missing t bytes k x a none, no-file-free t z free e) at given; inside = tt }
 
-        module _ (some : r ≢ fileCount (t .fileRecords)) (i : ℕ) (found : i ≡ recordFor s (a .name)) where
+        module _ (f : FileNo) (some : z ≡ N.At f) (i : ℕ) (found : i ≡ recordFor s (a .name)) where
           abbrev size : ℕ
           size = fileLength (t .fileRecords) (x .parent .0)
 
@@ -94,11 +98,11 @@ module _ (t : Tables) (bytes : List ℕ) (k : ℕ) (x : Located) (a : At t bytes
           end = max size (16 * i + 16)
 
           abbrev made : Result
-          made = done [] [] (file (parent s (a .name)) (naming s (a .name) (r + 1)) ∷ file (r + 1) (directory (s .file (parent s (a .name)) .depth + 1) []) ∷ [])
+          made = done [] [] (file (parent s (a .name)) (naming s (a .name) (f .0)) ∷ file (f .0) (directory (s .file (parent s (a .name)) .depth + 1) []) ∷ [])
 
           by-room : ifFitsIn (freeBlockCount (t .blockRecords)) size end made ≡ resultOf (Call.Mkdir bytes) t
           unfolding unless
-          by-room = sym (fits-is t bytes k x a none here i found (r + 1) made) ∙ rw (not-deep, here, is-missing t bytes k x a none, some-file-free t r free some, file-free t r free) at given
+          by-room = sym (fits-is t bytes k x a none here i found (f .0) made) ∙ rw (not-deep, here, is-missing t bytes k x a none, some-file-free t z free f some, file-free t z free f some) at given
 
           module _ (fit : Fit) (fits : FitsIn (freeBlockCount (t .blockRecords)) size end fit) where
             pub no-fit : (why : Report) → fit ≡ F.No why → Made t bytes (No why)
@@ -106,15 +110,15 @@ module _ (t : Tables) (bytes : List ℕ) (k : ℕ) (x : Located) (a : At t bytes
                 let refuses-so : (r : Result) → refused why ≡ ifFitsIn (freeBlockCount (t .blockRecords)) size end r = subst (FitsIn (freeBlockCount (t .blockRecords)) size end) e fits in
                 record { means = refuses-so made ∙ by-room; inside = tt }
 
-            pub makes : fit ≡ F.Fits → (depth : ℕ) → depth ≡ depthAt (t .fileRecords) (x .parent .0 - 1) → Made t bytes (Of (x .parent) i (record { 0 = r + 1 }) (depth + 1))
+            pub makes : fit ≡ F.Fits → (depth : ℕ) → depth ≡ depthAt (t .fileRecords) (x .parent .0 - 1) → Made t bytes (Of (x .parent) i f (depth + 1))
             unfolding ifFitsIn unless
             makes e depth read =
                 let room = subst (FitsIn (freeBlockCount (t .blockRecords)) size end) e fits in
                 let fitting : ifFitsIn (freeBlockCount (t .blockRecords)) size end made ≡ made =
                 rw (le-ltb longest end (room .0), le-ltb (freeBlockCount (t .blockRecords)) (needed end - needed size) (room .1)) in
-                let same = same-naming t bytes k x a none here i found (r + 1) in
+                let same = same-naming t bytes k x a none here i found (f .0) in
                 let deeper = sym (its-depth t bytes k x a none here depth read) in
-                let plan : done [] [] (file (x .parent .0) (rewritten s (x .parent .0) i (recordOf (r + 1) bytes)) ∷ file (r + 1) (directory (depth + 1) []) ∷ []) ≡ made =
-                λ j. done [] [] (file (a .dir j) (same j) ∷ file (r + 1) (directory (deeper j + 1) []) ∷ []) in
+                let plan : done [] [] (file (x .parent .0) (rewritten s (x .parent .0) i (recordOf (f .0) bytes)) ∷ file (f .0) (directory (depth + 1) []) ∷ []) ≡ made =
+                λ j. done [] [] (file (a .dir j) (same j) ∷ file (f .0) (directory (deeper j + 1) []) ∷ []) in
                 let means = plan ∙ sym fitting ∙ by-room in
-                record { means = means; inside = can t bytes k x a none here i found (r + 1) (depth + 1) means }
+                record { means = means; inside = can t bytes k x a none here i found (f .0) (depth + 1) means }

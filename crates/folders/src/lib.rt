@@ -3,6 +3,7 @@ use files::clear_file;
 use listing::count_names;
 use lookup::record_count;
 use meaning::FileNo;
+use meaning::MOST_SYLLABLES;
 use meaning::Report;
 use naming::Judged;
 use naming::Located;
@@ -14,6 +15,7 @@ use recording::give_name;
 use recording::record_fits;
 use recording::take_name;
 use soundness::is_directory;
+use tables::FoundFile;
 use tables::file_record;
 use tables::find_file;
 use tables::is_held;
@@ -108,16 +110,15 @@ fn decide_new(
     ensures { λ r. ⌜ Made (entered blocks «block_records» «file_records» «channel_records») (now (name .entry)) r ⌝ }
 {
     let d = at.parent;
-    let r = find_file(file_records, 0);
-    if r == file_records.len() / 8 {
+    let FoundFile::At(new) = find_file(file_records, 0) else {
         return Making::No(Report::NoFreeFids);
-    }
+    };
     let i = record_for(blocks, block_records, file_records, name, at);
     let depth = file_record(file_records, d).depth;
     let fit = record_fits(block_records, file_records, d, i);
     match fit {
         Fit::No(why) => Making::No(why),
-        Fit::Fits => Making::Of(d, i, FileNo(r as u16 + 1), depth + 1),
+        Fit::Fits => Making::Of(d, i, new, depth + 1),
     }
 }
 
@@ -135,7 +136,7 @@ fn decide_mkdir(
     match judged {
         Judged::Refused(why) => Making::No(why),
         Judged::Syllables(k) => {
-            if k == 8 {
+            if k == MOST_SYLLABLES {
                 return Making::No(Report::BadName);
             }
             let at = locate(blocks, block_records, file_records, name, k);

@@ -129,40 +129,40 @@ module _ (blocks records : List ℕ) (d count : ℕ) where
   pub places-count-end : (k names : ℕ) → names ≡ placeCount blocks records d (passed k) → count ≤ 32 * k → names ≡ placeCount blocks records d count
   places-count-end k names so-far h = let e : passed k ≡ count = omega arith in rw e at so-far
 
-  module _ (k b : ℕ) (block : b ≡ blockOf records d k) (more : 32 * k < count) (n : ℕ) (size : n ≡ min 32 (count - 32 * k)) where
+  module _ (k at : ℕ) (block : at ≡ 512 * blockOf records d k) (more : 32 * k < count) (n : ℕ) (size : n ≡ min 32 (count - 32 * k)) where
     first : passed k ≡ 32 * k
     first = omega arith
 
     both : passed (k + 1) ≡ 32 * k + n
     both = omega arith
 
-    lies : (x : ℕ) → x < n → recordPlace records d (32 * k + x) ≡ 512 * b + 16 * x
-    lies x l = run-place records d k b block x (omega arith)
+    lies : (x : ℕ) → x < n → recordPlace records d (32 * k + x) ≡ at + 16 * x
+    lies x l = run-place records d k at block x (omega arith)
 
-    pub places-counted : (names : ℕ) → names ≡ placeCount blocks records d (passed k) → (m : ℕ) → m ≡ runCount blocks (512 * b) n
+    pub places-counted : (names : ℕ) → names ≡ placeCount blocks records d (passed k) → (m : ℕ) → m ≡ runCount blocks at n
         → names + m ≡ placeCount blocks records d (passed (k + 1))
     unfolding placeCount runCount
     places-counted names so-far m is =
         let p : ℕ → Bool = λ i. not (blankAt blocks (recordPlace records d i)) in
         let run : m ≡ howMany n (λ x. p (32 * k + x)) =
-        is ∙ howMany-cong n (λ x. not (blankAt blocks (512 * b + 16 * x))) (λ x. p (32 * k + x)) (λ x l. ap (λ (y : ℕ). not (blankAt blocks y)) (sym (lies x l))) in
+        is ∙ howMany-cong n (λ x. not (blankAt blocks (at + 16 * x))) (λ x. p (32 * k + x)) (λ x l. ap (λ (y : ℕ). not (blankAt blocks y)) (sym (lies x l))) in
         let before : names ≡ howMany (32 * k) p = rw first at so-far in
         rw both (omega (arith, howMany-split p (32 * k) n))
 
-    pub run-small : (m : ℕ) → m ≡ runCount blocks (512 * b) n → m ≤ 32
-    run-small m is = omega (arith, run-count-within blocks (512 * b) n)
+    pub run-small : (m : ℕ) → m ≡ runCount blocks at n → m ≤ 32
+    run-small m is = omega (arith, run-count-within blocks at n)
 
     -- the names of the run before, and of this one
-    places-next : placeNames blocks records d (passed (k + 1)) ≡ placeNames blocks records d (passed k) ++ runNames blocks (512 * b) n
+    places-next : placeNames blocks records d (passed (k + 1)) ≡ placeNames blocks records d (passed k) ++ runNames blocks at n
     unfolding placeNames runNames
     places-next =
         let g : ℕ → List ℕ = λ i. nameAt blocks (recordPlace records d i) in
-        let run : rows n (λ x. g (32 * k + x)) ≡ rows n (λ x. nameAt blocks (512 * b + 16 * x)) =
-        rows-cong n (λ x. g (32 * k + x)) (λ x. nameAt blocks (512 * b + 16 * x)) (λ x l. ap (nameAt blocks) (lies x l)) in
+        let run : rows n (λ x. g (32 * k + x)) ≡ rows n (λ x. nameAt blocks (at + 16 * x)) =
+        rows-cong n (λ x. g (32 * k + x)) (λ x. nameAt blocks (at + 16 * x)) (λ x l. ap (nameAt blocks) (lies x l)) in
         rw (both, first, ← run) (rows-split g (32 * k) n)
 
-    places-length : length (placeNames blocks records d (passed (k + 1))) ≡ length (placeNames blocks records d (passed k)) + length (runNames blocks (512 * b) n)
-    places-length = ap length places-next ∙ length-append (placeNames blocks records d (passed k)) (runNames blocks (512 * b) n)
+    places-length : length (placeNames blocks records d (passed (k + 1))) ≡ length (placeNames blocks records d (passed k)) + length (runNames blocks at n)
+    places-length = ap length places-next ∙ length-append (placeNames blocks records d (passed k)) (runNames blocks at n)
 
     places-more : length (placeNames blocks records d (passed (k + 1))) ≤ length (placeNames blocks records d count)
     unfolding placeNames
@@ -172,15 +172,15 @@ module _ (blocks records : List ℕ) (d count : ℕ) where
 
     module _ (buffer₀ buffer : List ℕ) (end : ℕ) (same-size : length buffer ≡ length buffer₀) (ends : end ≡ length (placeNames blocks records d (passed k)))
         (so-far : buffer ≡ sets buffer₀ 0 (placeNames blocks records d (passed k))) where
-      pub places-room : length (placeNames blocks records d count) ≤ length buffer₀ → end + length (runNames blocks (512 * b) n) ≤ length buffer
+      pub places-room : length (placeNames blocks records d count) ≤ length buffer₀ → end + length (runNames blocks at n) ≤ length buffer
       places-room room = omega (arith, places-length, places-more)
 
-      pub places-end-next : (r : ℕ) → r ≡ end + length (runNames blocks (512 * b) n) → r ≡ length (placeNames blocks records d (passed (k + 1)))
+      pub places-end-next : (r : ℕ) → r ≡ end + length (runNames blocks at n) → r ≡ length (placeNames blocks records d (passed (k + 1)))
       places-end-next r e = omega (arith, places-length)
 
-      pub places-laid-next : (next : List ℕ) → next ≡ sets buffer end (runNames blocks (512 * b) n) → next ≡ sets buffer₀ 0 (placeNames blocks records d (passed (k + 1)))
+      pub places-laid-next : (next : List ℕ) → next ≡ sets buffer end (runNames blocks at n) → next ≡ sets buffer₀ 0 (placeNames blocks records d (passed (k + 1)))
       places-laid-next next p =
-          rw places-next (then-sets (placeNames blocks records d (passed k)) (runNames blocks (512 * b) n) buffer₀ buffer next 0 end (omega arith) so-far p)
+          rw places-next (then-sets (placeNames blocks records d (passed k)) (runNames blocks at n) buffer₀ buffer next 0 end (omega arith) so-far p)
 
   module _ (buffer₀ : List ℕ) where
     pub places-laid-start : buffer₀ ≡ sets buffer₀ 0 (placeNames blocks records d (passed 0))

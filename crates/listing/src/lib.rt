@@ -4,13 +4,14 @@ use directories::run_size;
 use lookup::record_count;
 use meaning::Counted;
 use meaning::FileNo;
+use meaning::LONGEST_SYLLABLE;
 use meaning::Report;
-use names::is_blank;
 use naming::Judged;
 use naming::judge_name;
 use naming::locate;
+use records::zeros_at;
 use soundness::is_directory;
-use tables::find_block;
+use tables::place_start;
 ghost use mathlib.Core.Path.{_≡_};
 ghost use Prim.Native.Nat.{_+_, _*_, _≤_};
 ghost use lib.ListN.{length};
@@ -30,7 +31,7 @@ fn count_names_in_run(blocks: &[u8], at: usize, n: usize) -> usize
     let mut names: usize = 0;
     let mut j = 0;
     while j < n {
-        if !is_blank(blocks, at + 16 * j) {
+        if !zeros_at(blocks, at + 16 * j, 16) {
             names += 1;
         }
         j += 1;
@@ -46,9 +47,9 @@ pub fn count_names(blocks: &[u8], block_records: &[u8], d: FileNo, count: usize)
     let mut names: usize = 0;
     let mut k = 0;
     while 32 * k < count {
-        let b = find_block(block_records, d, k as u16);
+        let at = place_start(block_records, d, k as u16);
         let n = run_size(count, k);
-        names += count_names_in_run(blocks, 512 * b, n);
+        names += count_names_in_run(blocks, at, n);
         k += 1;
     }
     names
@@ -60,11 +61,11 @@ fn lay_name(blocks: &[u8], at: usize, buffer: &mut [u8], to: usize) -> usize
     ensures { λ r. ⌜ r ≡ to + length (nameAt (now (blocks .entry)) at) ⌝ }
     ensures { λ r. ⌜ now (buffer .exit) ≡ sets (now (buffer .entry)) to (nameAt (now (blocks .entry)) at) ⌝ }
 {
-    if is_blank(blocks, at) {
+    if zeros_at(blocks, at, 16) {
         return to;
     }
-    copy_run(blocks, at + 2, 14, buffer, to);
-    to + 14
+    copy_run(blocks, at + 2, LONGEST_SYLLABLE, buffer, to);
+    to + LONGEST_SYLLABLE
 }
 
 // The names of n records from a place on laid into a buffer, from byte `to` on. It answers where they end.
@@ -90,9 +91,9 @@ fn lay_names(blocks: &[u8], block_records: &[u8], d: FileNo, count: usize, buffe
     let mut end = 0;
     let mut k = 0;
     while 32 * k < count {
-        let b = find_block(block_records, d, k as u16);
+        let at = place_start(block_records, d, k as u16);
         let n = run_size(count, k);
-        end = lay_names_in_run(blocks, 512 * b, n, buffer, end);
+        end = lay_names_in_run(blocks, at, n, buffer, end);
         k += 1;
     }
 }
@@ -128,7 +129,7 @@ fn decide_ls(
             }
             let count = record_count(file_records, f);
             let names = count_names(blocks, block_records, f, count);
-            if size < 14 * names {
+            if size < LONGEST_SYLLABLE * names {
                 return Listing::No(Report::OutShort);
             }
             Listing::Of(f, count, names as u32)

@@ -31,6 +31,7 @@ module _ (t : Tables) (L : Layout t) (w : Well (storeOf t)) (d : ℕ) (is : isDi
   pub directory-lies : Lies (t .blocks) (t .blockRecords) d (recordCount (storeOf t .file d .bytes))
   directory-lies =
       record {
+        few-blocks = L .lengths .few-blocks;
         table = L .lengths .blocks;
         few = omega (arith, whole, directory-form (storeOf t) w d is .size);
         there = λ k h. block-there t L d k (run-there k h);

@@ -11,7 +11,7 @@ use Rattle.records.specs.Rows.{lowest}
 use Rattle.records.specs.RowLaws.{lowest-cong, lowest-within}
 use Rattle.meaning.specs.Name.{Entry, same, entryIn, entryAt, isBlank, recordCount, recordNamed, recordForNew, inDirectory}
 use Rattle.meaning.specs.Store.{Store, isDirectory, within}
-use Rattle.meaning.specs.Tables.{tables, storeOf, fileCount, fileLength, lengthAt, blockOf}
+use Rattle.meaning.specs.Tables.{tables, storeOf, blockCount, fileCount, fileLength, lengthAt, blockOf}
 use Rattle.layout.specs.Layout.{length-file}
 use Rattle.soundness.specs.Use.{directory-used}
 use Rattle.soundness.specs.Seen.{filesStore}
@@ -23,6 +23,7 @@ use Rattle.paths.specs.Taking.{syllableEnd, behind}
 use Rattle.paths.specs.TakingLaws.{behind-slash}
 use Rattle.directories.specs.Places.{recordPlace, entry-there, blank-there}
 use Rattle.directories.specs.Find.{Lies, namedAt, blankAt, placeLowest}
+use Rattle.directories.specs.FindLaws.{lies-first, run-held, block-inside}
 use Rattle.lookup.specs.Walk.{walk}
 use Rattle.lookup.specs.Filed.{filed, Shelves, directory-here}
 
@@ -59,11 +60,14 @@ module _ (blocks records files : List ℕ) (d : ℕ) where
       record-in : (i : ℕ) → i < count → 16 * i + 16 ≤ length (filed blocks records files .file d .bytes)
       record-in i h = omega (arith, shelf .whole d here, counted-is)
 
-      pub place-in : (i : ℕ) → i < count → (recordPlace records d i + 16 ≤ length blocks) × (i < 2048)
+      place-in : (i : ℕ) → i < count → recordPlace records d i + 16 ≤ length blocks
       unfolding recordPlace
       place-in i h =
           let l = lies-here count counted in
-          (omega (arith, l .there (i / 32) (omega arith), l .table), omega (arith, l .few))
+          omega (arith, l .there (i / 32) (omega arith), l .table)
+
+      pub entry-lies : (i : ℕ) → i < count → Lies blocks records d (i + 1)
+      entry-lies i h = lies-first blocks records d count (lies-here count counted) (i + 1) (omega arith)
 
       -- the first blank record
       pub is-blank : (i : ℕ) → i ≡ placeLowest (blankAt blocks) records d count → i ≡ recordForNew (filed blocks records files .file d .bytes)
@@ -80,7 +84,7 @@ module _ (blocks records files : List ℕ) (d : ℕ) where
         is-named =
             found
             ∙ lowest-cong count (λ k. namedAt blocks syllable (recordPlace records d k)) (λ k. same (entryAt (filed blocks records files .file d .bytes) k .name) syllable)
-            (λ k h. ap (λ (e : Entry). same (e .name) syllable) (sym (entry-there (tables blocks records files []) d k (record-in k h) (place-in k h .0))))
+            (λ k h. ap (λ (e : Entry). same (e .name) syllable) (sym (entry-there (tables blocks records files []) d k (record-in k h) (place-in k h))))
             ∙ ap (λ (n : ℕ). lowest n (λ k. same (entryAt (filed blocks records files .file d .bytes) k .name) syllable)) (sym counted-is)
 
         -- it is a record's, or none
@@ -95,20 +99,21 @@ module _ (blocks records files : List ℕ) (d : ℕ) where
         pub one-there : i < count → (f : ℕ) → f ≡ entryIn (recordFrom blocks (recordPlace records d i)) .file → f ≡ within (filed blocks records files) d syllable
         unfolding within inDirectory
         one-there h f e =
-            e ∙ sym (ap (λ (x : Entry). x .file) (entry-there (tables blocks records files []) d i (record-in i h) (place-in i h .0)))
+            e ∙ sym (ap (λ (x : Entry). x .file) (entry-there (tables blocks records files []) d i (record-in i h) (place-in i h)))
             ∙ rw (here, ← is-named, lt-ltb i (recordCount (filed blocks records files .file d .bytes)) (omega (arith, counted-is)))
 
--- a record's place, once its block is found
-module _ (blocks records : List ℕ) (d i b : ℕ) (block : b ≡ blockOf records d (i / 32)) where
-  pub place-is : 512 * b + 16 * (i % 32) ≡ recordPlace records d i
-  unfolding recordPlace
-  place-is = rw block
+-- a record's place, in the block of its run
+module _ (blocks records : List ℕ) (d i : ℕ) (lies : Lies blocks records d (i + 1)) where
+  pub entry-held : (blockCount records ≤ 65536) × (blockOf records d (i / 32) < blockCount records)
+  entry-held = run-held blocks records d (i + 1) (i / 32) lies (omega arith)
 
-  pub place-inside : recordPlace records d i + 16 ≤ length blocks → 512 * b + 16 * (i % 32) + 16 ≤ length blocks
-  place-inside h = omega (arith, place-is)
+  module _ (at : ℕ) (block : at ≡ 512 * blockOf records d (i / 32)) where
+    pub entry-inside : at + 16 * (i % 32) + 16 ≤ length blocks
+    entry-inside = omega (arith, block-inside blocks records d (i + 1) (i / 32) lies at block (omega arith))
 
-  pub entry-is : (f : ℕ) → f ≡ entryIn (recordFrom blocks (512 * b + 16 * (i % 32))) .file → f ≡ entryIn (recordFrom blocks (recordPlace records d i)) .file
-  entry-is f e = rw place-is at e
+    pub entry-is : (f : ℕ) → f ≡ entryIn (recordFrom blocks (at + 16 * (i % 32))) .file → f ≡ entryIn (recordFrom blocks (recordPlace records d i)) .file
+    unfolding recordPlace
+    entry-is f e = rw block at e
 
 -- ---- a walk of n syllables, a step at a time
 

@@ -5,9 +5,9 @@ use names::record_file;
 use paths::take_syllable;
 use soundness::is_directory;
 use tables::file_record;
-use tables::find_block;
+use tables::place_start;
 ghost use mathlib.Core.Path.{_≡_};
-ghost use Prim.Native.Nat.{_+_, _*_, _/_, _≤_, _<_};
+ghost use Prim.Native.Nat.{_+_, _*_, _/_, _≤_};
 ghost use mathlib.Core.Bool.{true};
 ghost use Rattle.soundness.specs.Seen.{filesStore};
 ghost use Rattle.meaning.specs.Tables.{fileLength};
@@ -17,6 +17,7 @@ ghost use Rattle.meaning.specs.Store.{isDirectory, within};
 ghost use Rattle.names.specs.Syllables.{part, syllablesFrom, Reaches};
 ghost use Rattle.names.specs.RecordNames.{recordFrom};
 ghost use Rattle.directories.specs.Places.{recordPlace};
+ghost use Rattle.directories.specs.Find.{Lies};
 ghost use Rattle.lookup.specs.Filed.{filed, Shelves};
 ghost use Rattle.lookup.specs.Walk.{walk};
 
@@ -29,12 +30,12 @@ pub fn record_count(file_records: &[u8], d: FileNo) -> usize
 }
 
 // The file number of record i of a directory.
-pub fn entry_file(blocks: &[u8], block_records: &[u8], d: FileNo, i: usize) -> FileNo
-    requires { ⌜ recordPlace (now «block_records») (d .0) i + 16 ≤ length (now blocks) ⌝ ∗ ⌜ i < 2048 ⌝ }
+fn entry_file(blocks: &[u8], block_records: &[u8], d: FileNo, i: usize) -> FileNo
+    requires { ⌜ Lies (now blocks) (now «block_records») (d .0) (i + 1) ⌝ }
     ensures { λ r. ⌜ r .0 ≡ entryIn (recordFrom (now (blocks .entry)) (recordPlace (now («block_records» .entry)) (d .0) i)) .file ⌝ }
 {
-    let b = find_block(block_records, d, (i / 32) as u16);
-    record_file(blocks, 512 * b + 16 * (i % 32))
+    let at = place_start(block_records, d, (i / 32) as u16);
+    record_file(blocks, at + 16 * (i % 32))
 }
 
 // What a part of a name names in file d; 0 where it names nothing or d is no directory.

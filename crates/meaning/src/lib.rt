@@ -46,6 +46,26 @@ pub fn report_number(report: Report) -> u32
     }
 }
 
+// No file and no directory is longer.
+pub const LONGEST: u32 = 32768;
+
+// The last position of a channel.
+pub const LAST_POSITION: u32 = 16777215;
+
+// How long a syllable of a name can be, and how many a name can have.
+pub const LONGEST_SYLLABLE: usize = 14;
+
+pub const MOST_SYLLABLES: usize = 8;
+
+// How many blocks, files and channels a store can have, and how many bytes a block has.
+pub const MOST_BLOCKS: usize = 128;
+
+pub const MOST_FILES: usize = 64;
+
+pub const MOST_CHANNELS: usize = 16;
+
+pub const BLOCK_SIZE: usize = 512;
+
 // Files are counted from 1; 0 means none.
 pub struct FileNo(pub u16);
 

@@ -1,11 +1,15 @@
 // Names: their syllables, and the directory records that hold them (01, "Names").
 use meaning::FileNo;
+use meaning::LONGEST_SYLLABLE;
+use meaning::MOST_SYLLABLES;
 use paths::take_syllable;
+use records::put_two;
+use records::two_at;
 ghost use mathlib.Core.Path.{_≡_};
 ghost use Prim.Native.Nat.{_+_, _-_, _≤_, _<_};
 ghost use lib.ListN.{length};
 ghost use lib.Seq.{sets};
-ghost use Rattle.records.specs.Numbers.{one, twoBytes, zeros};
+ghost use Rattle.records.specs.Numbers.{one};
 ghost use Rattle.meaning.specs.Name.{isSyllable, syllables, same, entry, entryIn, written};
 ghost use Rattle.names.specs.Syllables.{part, lastStart, formOf};
 ghost use Rattle.names.specs.RecordNames.{recordFrom, padded};
@@ -28,7 +32,7 @@ pub fn is_syllable(name: &[u8], from: usize, to: usize) -> bool
     if size < 1 {
         return false;
     }
-    if 14 < size {
+    if LONGEST_SYLLABLE < size {
         return false;
     }
     let mut i = from;
@@ -51,7 +55,7 @@ fn count_syllables(name: &[u8]) -> NameForm
 {
     let mut at = 1;
     let mut k = 0;
-    while k < 8 {
+    while k < MOST_SYLLABLES {
         let taken = take_syllable(name, at);
         let end = taken.end;
         if !is_syllable(name, at, end) {
@@ -106,7 +110,7 @@ pub fn names_record(table: &[u8], at: usize, name: &[u8], from: usize, to: usize
     ensures { λ r. ⌜ r ≡ same (entryIn (recordFrom (now (table .entry)) at) .name) (part (now (name .entry)) from to) ⌝ }
 {
     let n = to - from;
-    if 14 < n {
+    if LONGEST_SYLLABLE < n {
         return false;
     }
     let mut i = 0;
@@ -120,7 +124,7 @@ pub fn names_record(table: &[u8], at: usize, name: &[u8], from: usize, to: usize
         }
         i += 1;
     }
-    if n == 14 {
+    if n == LONGEST_SYLLABLE {
         return true;
     }
     table[at + 2 + n] == 0
@@ -131,31 +135,7 @@ pub fn record_file(table: &[u8], at: usize) -> FileNo
     requires { ⌜ at + 16 ≤ length (now table) ⌝ }
     ensures { λ r. ⌜ r .0 ≡ entryIn (recordFrom (now (table .entry)) at) .file ⌝ }
 {
-    FileNo((table[at] as u16) + 256 * (table[at + 1] as u16))
-}
-
-// Whether the record that starts at a place is blank.
-pub fn is_blank(table: &[u8], at: usize) -> bool
-    requires { ⌜ at + 16 ≤ length (now table) ⌝ }
-    ensures { λ r. ⌜ r ≡ zeros (now (table .entry)) at 16 ⌝ }
-{
-    let mut i = 0;
-    while i < 16 {
-        if table[at + i] != 0 {
-            return false;
-        }
-        i += 1;
-    }
-    true
-}
-
-// A file number laid at a place, low byte first.
-fn put_number(table: &mut [u8], at: usize, n: u16)
-    requires { ⌜ at + 1 < length (now table) ⌝ }
-    ensures { λ r. ⌜ now (table .exit) ≡ sets (now (table .entry)) at (twoBytes n) ⌝ }
-{
-    table[at] = (n % 256) as u8;
-    table[at + 1] = (n / 256) as u8;
+    FileNo(two_at(table, at))
 }
 
 // Byte i of a part of a name, or 0 behind it.
@@ -175,7 +155,7 @@ fn put_name(table: &mut [u8], at: usize, name: &[u8], from: usize, to: usize)
     ensures { λ r. ⌜ now (table .exit) ≡ sets (now (table .entry)) at (padded (part (now (name .entry)) from to)) ⌝ }
 {
     let mut i = 0;
-    while i < 14 {
+    while i < LONGEST_SYLLABLE {
         table[at + i] = byte_or_zero(name, from, to, i);
         i += 1;
     }
@@ -186,6 +166,6 @@ pub fn write_record(table: &mut [u8], at: usize, f: FileNo, name: &[u8], from: u
     requires { ⌜ at + 16 ≤ length (now table) ⌝ ∗ ⌜ (from ≤ to) × (to ≤ length (now name)) × (to - from ≤ 14) ⌝ }
     ensures { λ r. ⌜ now (table .exit) ≡ sets (now (table .entry)) at (written (entry (f .0) (part (now (name .entry)) from to))) ⌝ }
 {
-    put_number(table, at, f.0);
+    put_two(table, at, f.0);
     put_name(table, at + 2, name, from, to);
 }

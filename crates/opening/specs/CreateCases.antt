@@ -15,7 +15,11 @@ use Rattle.meaning.specs.Result.{Result, done, unless, missing, nowhere, allOpe
 use Rattle.meaning.specs.Run.{Call, resultOf, meaning, accepts}
 use Rattle.meaning.specs.declared.Report.{Report}
 use Rattle.meaning.specs.declared.Report.the-variants.{NoSuchName, IsDirectory, NoFreeCids, NoFreeFids}
-use Rattle.tables.specs.Searches.{channelWith, fileWith, freeBlockCount}
+use Rattle.meaning.specs.declared.FileNo.{FileNo}
+use Rattle.meaning.specs.declared.ChannelNo.{ChannelNo}
+use Rattle.tables.specs.declared.FoundFile as file
+use Rattle.tables.specs.declared.FoundChannel as channel
+use Rattle.tables.specs.Searches.{channelWith, channelFound, fileWith, fileFound, freeBlockCount}
 use Rattle.soundness.specs.Seen.{filesStore}
 use Rattle.naming.specs.Judged.{OnName, onNameOf, refuses}
 use Rattle.naming.specs.At.{At, follows, is-missing, not-missing, is-nowhere, somewhere, there, file-directory}
@@ -25,7 +29,7 @@ use Rattle.naming.specs.declared.Judged.the-variants.{Refused}
 use Rattle.recording.specs.Recording.{recordOf}
 use Rattle.recording.specs.Fit.{FitsIn, ifFitsIn}
 use Rattle.recording.specs.declared.Fit.the-variants as F
-use Rattle.placing.specs.Free.{channel-within, channel-free, no-channel-free, some-channel-free, file-within, file-free, no-file-free, some-file-free}
+use Rattle.placing.specs.Free.{channel-below, channel-free, no-channel-free, some-channel-free, file-within, file-free, no-file-free, some-file-free}
 use Rattle.placing.specs.NewName.{fits-is}
 use Rattle.opening.specs.Create.{Created}
 use Rattle.opening.specs.CreateLaws.{no-directory, old-clears, same-record, makes}
@@ -83,25 +87,24 @@ module _ (t : Tables) (bytes : List ℕ) (k : ℕ) (x : Located) (a : At t bytes
     unfolding unless
     old-directory is = record { means = rw (there t bytes k x a some, file-directory t bytes k x a v tells, is) at given; inside = tt }
 
-    module _ (isnt : v ≡ false) (c : ℕ) (found : c ≡ channelWith (t .channelRecords) 0) where
+    module _ (isnt : v ≡ false) (y : channel.FoundChannel) (found : y ≡ channelFound (channelCount (t .channelRecords)) (channelWith (t .channelRecords) 0)) where
       plain : isDirectory s (named s n) ≡ false
       plain = file-directory t bytes k x a v tells ∙ isnt
 
-      pub old-no-channel : c ≡ channelCount (t .channelRecords) → Created t bytes (No NoFreeCids)
+      pub old-no-channel : y ≡ channel.the-variants.Nowhere → Created t bytes (No NoFreeCids)
       unfolding unless
-      old-no-channel e = record { means = rw (there t bytes k x a some, plain, no-channel-free t c found e) at given; inside = tt }
+      old-no-channel e = record { means = rw (there t bytes k x a some, plain, no-channel-free t y found e) at given; inside = tt }
 
-      module _ (spare : c ≢ channelCount (t .channelRecords)) where
+      module _ (c : ChannelNo) (spare : y ≡ channel.the-variants.At c) where
         emptied : done (freeChannel s ∷ []) [] (file (named s n) (ordinary []) ∷ channel (freeChannel s) (channelTo (named s n) 0) ∷ []) ≡ resultOf (Call.Create bytes) t
         unfolding unless
-        emptied = rw (there t bytes k x a some, plain, some-channel-free t c found spare, not-missing t bytes k x a some) at given
+        emptied = rw (there t bytes k x a some, plain, some-channel-free t y found c spare, not-missing t bytes k x a some) at given
 
-        pub old-emptied : Created t bytes (Old (record { 0 = c }) (x .file))
+        pub old-emptied : Created t bytes (Old c (x .file))
         old-emptied =
-            let l = channel-within t c found in
             record {
-              means = old-same s n c (x .file .0) (sym (channel-free t c found)) (a .stands) ∙ emptied;
-              inside = record { below = omega arith; clearable = old-clears t bytes k x a some };
+              means = old-same s n (c .0) (x .file .0) (sym (channel-free t y found c spare)) (a .stands) ∙ emptied;
+              inside = record { below = channel-below t y found c spare; clearable = old-clears t bytes k x a some };
             }
 
   -- ---- the name is new
@@ -118,18 +121,19 @@ module _ (t : Tables) (bytes : List ℕ) (k : ℕ) (x : Located) (a : At t bytes
       no-dir : isDirectory s (named s n) ≡ false
       no-dir = no-directory s (named s n) (sym (a .stands) ∙ none)
 
-      module _ (c : ℕ) (found : c ≡ channelWith (t .channelRecords) 0) where
-        pub new-no-channel : c ≡ channelCount (t .channelRecords) → Created t bytes (No NoFreeCids)
+      module _ (y : channel.FoundChannel) (found : y ≡ channelFound (channelCount (t .channelRecords)) (channelWith (t .channelRecords) 0)) where
+        pub new-no-channel : y ≡ channel.the-variants.Nowhere → Created t bytes (No NoFreeCids)
         unfolding unless
-        new-no-channel e = record { means = rw (new-here, no-dir, no-channel-free t c found e) at given; inside = tt }
+        new-no-channel e = record { means = rw (new-here, no-dir, no-channel-free t y found e) at given; inside = tt }
 
-        module _ (spare : c ≢ channelCount (t .channelRecords)) (r : ℕ) (free : r ≡ fileWith (t .fileRecords) 0) where
-          pub new-no-file : r ≡ fileCount (t .fileRecords) → Created t bytes (No NoFreeFids)
+        module _ (c : ChannelNo) (spare : y ≡ channel.the-variants.At c)
+            (z : file.FoundFile) (free : z ≡ fileFound (fileCount (t .fileRecords)) (fileWith (t .fileRecords) 0)) where
+          pub new-no-file : z ≡ file.the-variants.Nowhere → Created t bytes (No NoFreeFids)
           unfolding unless
           new-no-file e =
-              record { means = rw (new-here, no-dir, some-channel-free t c found spare, is-missing t bytes k x a none, no-file-free t r free e) at given; inside = tt }
+              record { means = rw (new-here, no-dir, some-channel-free t y found c spare, is-missing t bytes k x a none, no-file-free t z free e) at given; inside = tt }
 
-          module _ (unused : r ≢ fileCount (t .fileRecords)) (i : ℕ) (place : i ≡ recordFor s n) where
+          module _ (f : FileNo) (unused : z ≡ file.the-variants.At f) (i : ℕ) (place : i ≡ recordFor s n) where
             abbrev size : ℕ
             size = fileLength (t .fileRecords) (x .parent .0)
 
@@ -140,7 +144,7 @@ module _ (t : Tables) (bytes : List ℕ) (k : ℕ) (x : Located) (a : At t bytes
             unfolding unless
             if-fits =
                 sym (fits-is t bytes k x a none new-here i place (freeFile s) made)
-                ∙ (rw (new-here, no-dir, some-channel-free t c found spare, is-missing t bytes k x a none, some-file-free t r free unused) at given)
+                ∙ (rw (new-here, no-dir, some-channel-free t y found c spare, is-missing t bytes k x a none, some-file-free t z free f unused) at given)
 
             pub new-refused : (why : Report) → FitsIn (freeBlockCount (t .blockRecords)) size (max size (16 * i + 16)) (F.No why) → Created t bytes (No why)
             new-refused why cause = record { means = cause made ∙ if-fits; inside = tt }
@@ -152,14 +156,13 @@ module _ (t : Tables) (bytes : List ℕ) (k : ℕ) (x : Located) (a : At t bytes
                 rw (le-ltb longest (max size (16 * i + 16)) (fit .0), le-ltb (freeBlockCount (t .blockRecords)) (needed (max size (16 * i + 16)) - needed size) (fit .1)) at if-fits
 
             pub new-made : FitsIn (freeBlockCount (t .blockRecords)) size (max size (16 * i + 16)) F.Fits
-                → Created t bytes (New (record { 0 = c }) (record { 0 = r + 1 }) (x .parent) i)
+                → Created t bytes (New c f (x .parent) i)
             new-made fit =
-                let l = channel-within t c found in
-                let m = file-within t r free in
+                let within = file-within t z free f unused in
                 record {
                   means =
-                      new-same s n c (r + 1) (x .parent .0) (file (x .parent .0) (rewritten s (x .parent .0) i (recordOf (r + 1) bytes)))
-                      (sym (channel-free t c found)) (sym (file-free t r free)) (same-record t bytes k x a none new-here i place (r + 1))
+                      new-same s n (c .0) (f .0) (x .parent .0) (file (x .parent .0) (rewritten s (x .parent .0) i (recordOf (f .0) bytes)))
+                      (sym (channel-free t y found c spare)) (sym (file-free t z free f unused)) (same-record t bytes k x a none new-here i place (f .0))
                       ∙ fitting fit;
-                  inside = makes t bytes k x a none new-here i place (fit .0) (fit .1) c (r + 1) (omega arith) (omega arith) (omega arith);
+                  inside = makes t bytes k x a none new-here i place (fit .0) (fit .1) (c .0) (f .0) (channel-below t y found c spare) (within .0) (within .1);
                 }

@@ -14,6 +14,8 @@ use recording::give_name;
 use recording::record_fits;
 use soundness::is_directory;
 use tables::ChannelRecord;
+use tables::FoundChannel;
+use tables::FoundFile;
 use tables::find_channel;
 use tables::find_file;
 use tables::put_channel_record;
@@ -48,11 +50,10 @@ fn decide_open(
             if f.0 == 0 {
                 return Opening::No(Report::NoSuchName);
             }
-            let c = find_channel(channel_records, FileNo(0));
-            if c == channel_records.len() / 8 {
+            let FoundChannel::At(c) = find_channel(channel_records, FileNo(0)) else {
                 return Opening::No(Report::NoFreeCids);
-            }
-            Opening::Of(ChannelNo(c as u32), f)
+            };
+            Opening::Of(c, f)
         }
     }
 }
@@ -108,19 +109,17 @@ fn decide_new(
     if !is_directory(file_records, d) {
         return Creating::No(Report::NoSuchName);
     }
-    let c = find_channel(channel_records, FileNo(0));
-    if c == channel_records.len() / 8 {
+    let FoundChannel::At(c) = find_channel(channel_records, FileNo(0)) else {
         return Creating::No(Report::NoFreeCids);
-    }
-    let r = find_file(file_records, 0);
-    if r == file_records.len() / 8 {
+    };
+    let FoundFile::At(new) = find_file(file_records, 0) else {
         return Creating::No(Report::NoFreeFids);
-    }
+    };
     let i = record_for(blocks, block_records, file_records, name, at);
     let fit = record_fits(block_records, file_records, d, i);
     match fit {
         Fit::No(why) => Creating::No(why),
-        Fit::Fits => Creating::New(ChannelNo(c as u32), FileNo(r as u16 + 1), d, i),
+        Fit::Fits => Creating::New(c, new, d, i),
     }
 }
 
@@ -153,11 +152,10 @@ fn decide_create(
             if is_directory(file_records, f) {
                 return Creating::No(Report::IsDirectory);
             }
-            let c = find_channel(channel_records, FileNo(0));
-            if c == channel_records.len() / 8 {
+            let FoundChannel::At(c) = find_channel(channel_records, FileNo(0)) else {
                 return Creating::No(Report::NoFreeCids);
-            }
-            Creating::Old(ChannelNo(c as u32), f)
+            };
+            Creating::Old(c, f)
         }
     }
 }

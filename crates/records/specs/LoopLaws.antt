@@ -1,7 +1,7 @@
 -- Laws of the rows as a loop at i meets them: the start, the step to i + 1, the end.
 use Prim.Native.Nat.{ℕ, _+_, _-_, _≤_, _<_}
 use mathlib.Core.Path.{_≡_, refl, ap, sym, _∙_}
-use mathlib.Core.Logic.{⊎-elim}
+use mathlib.Core.Logic.{_≢_, ⊎-elim}
 use mathlib.Core.List.{List, [], _∷_}
 use mathlib.Core.Bool.{Bool, true, false, true≢false}
 use native.Mathlib.Numerals.{add-one}
@@ -11,8 +11,8 @@ use lib.ListN.{length, take, getD, set, length-take}
 use lib.Seq.{sets, take-suc, take-all}
 use borrow.Author.Tests.{lt-ltb, le-ltb, eq-eqb, ne-eqb}
 use Rattle.records.specs.Rows.{tally, lowest, lowestFrom, every, howMany, sum}
-use Rattle.records.specs.Tests.{tested, lt-or-ge}
-use Rattle.records.specs.RowLaws.{search-hit, search-miss, search-end, every-all, howMany-mono, sum-constant, sum-term, lowest-hit, some-lowest}
+use Rattle.records.specs.Tests.{tested, same-or-not, lt-or-ge}
+use Rattle.records.specs.RowLaws.{search-hit, search-miss, search-end, every-all, howMany-mono, sum-constant, sum-term, lowest-hit, lowest-le, some-lowest}
 use Rattle.records.specs.RecordLaws.{sets-append}
 
 -- ---- a search: what is left of it gives what the whole gives
@@ -31,6 +31,18 @@ module _ (p : ℕ → Bool) (n : ℕ) where
 
     pub search-none : i ≤ n → n ≤ i → n ≡ lowest n p
     search-none l h = let e : n ≡ i = omega arith in e ∙ sym (so-far ∙ search-end p i n h)
+
+-- a search that is sure to find: it tests no end, and what it looks for is not passed
+module _ (p : ℕ → Bool) (n i : ℕ) (sure : lowest n p < n) (ahead : i ≤ lowest n p) (v w : ℕ) (test : p i ≡ eqb v w) where
+  pub sure-found : v ≡ w → i ≡ lowest n p
+  sure-found e = omega (arith, lowest-le n p i (test ∙ eq-eqb v w e))
+
+  pub sure-ahead : (v ≡ w → ⊥) → i + 1 ≤ lowest n p
+  sure-ahead d =
+      ⊎-elim
+      (λ (e : i ≡ lowest n p). let z : true ≡ false = sym (lowest-hit n p sure) ∙ ap p (sym e) ∙ test ∙ ne-eqb v w d in absurd (true≢false z))
+      (λ (h : i ≢ lowest n p). omega arith)
+      (same-or-not i (lowest n p))
 
 -- ---- whether every index passes
 

@@ -54,8 +54,8 @@ pub padded-less : (blocks starts : List ℕ) (n m : ℕ) → m ≤ n → Padded 
 padded-less blocks starts n m l p = record { each = λ i (h : i < m). p .each i (omega arith) }
 
 module _ (blocks starts : List ℕ) (n : ℕ) (padded : Padded blocks starts n) (i : ℕ) (h : i < n) where
-  pub slot-filled : (k : ℕ) → k ≡ slot starts i → Filled blocks (16 * k)
-  slot-filled k e = rw e (padded .each i h)
+  pub slot-filled : (at : ℕ) → at ≡ 16 * slot starts i → Filled blocks at
+  slot-filled at e = rw e (padded .each i h)
 
 -- ---- records of one name belong to one chain
 

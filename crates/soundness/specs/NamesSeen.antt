@@ -115,7 +115,7 @@ module _ (t : Tables) where
       allNamedBy (channelsStore (t .fileRecords) (t .channelRecords)) counts ≡ every (storeOf t .fileCount) (λ i. isNamed (storeOf t) (suc i))
   unfolding allNamedBy namedBy isNamedBy isNamed isDirectory inUse held storeOf fileOf channelOf
   all-named counts counted few =
-      every-cong (fileCount (t .fileRecords)) (namedBy (channelsStore (t .fileRecords) (t .channelRecords)) counts) (λ i. isNamed (storeOf t) (suc i))
+      every-cong (fileCount (t .fileRecords)) (λ i. namedBy (channelsStore (t .fileRecords) (t .channelRecords)) counts (suc i)) (λ i. isNamed (storeOf t) (suc i))
       (λ i (h : i < fileCount (t .fileRecords)).
       let n : names (storeOf t) (suc i) ≡ getD counts (suc i) 0 = names-seen (suc i) ∙ names-summed seen (suc i) ∙ sym (counted .each (suc i) (omega arith)) in
       rw n)

@@ -15,10 +15,10 @@ use Rattle.soundness.specs.Slots.{slot}
 unfoldable pub other : List ℕ → List ℕ → ℕ → ℕ → Bool
 other blocks starts i j = not (same (entryAt blocks (slot starts j) .name) (entryAt blocks (slot starts i) .name))
 
-module _ (blocks starts : List ℕ) (i k : ℕ) (slot-is : k ≡ slot starts i) (flag : Bool) (is : flag ≡ zeros blocks (16 * k) 16) where
+module _ (blocks starts : List ℕ) (i at : ℕ) (at-is : at ≡ 16 * slot starts i) (flag : Bool) (is : flag ≡ zeros blocks at 16) where
   blankness : isBlank blocks (slot starts i) ≡ flag
   unfolding isBlank
-  blankness = rw (← slot-is) (sym is)
+  blankness = rw (← at-is) (sym is)
 
   pub blank-new : flag ≡ true → true ≡ newAt blocks starts i
   unfolding newAt
@@ -29,9 +29,9 @@ module _ (blocks starts : List ℕ) (i k : ℕ) (slot-is : k ≡ slot starts i) 
     unfolding newAt other
     compared-new all = rw (blankness, used) (sym all)
 
-    module _ (j l : ℕ) (slot-j : l ≡ slot starts j) (alike : Bool) (test : alike ≡ same (entryIn (recordFrom blocks (16 * l)) .name) (entryIn (recordFrom blocks (16 * k)) .name)) where
+    module _ (j bt : ℕ) (bt-is : bt ≡ 16 * slot starts j) (alike : Bool) (test : alike ≡ same (entryIn (recordFrom blocks bt) .name) (entryIn (recordFrom blocks at) .name)) where
       tested : same (entryAt blocks (slot starts j) .name) (entryAt blocks (slot starts i) .name) ≡ alike
-      tested = rw (← slot-j, ← slot-is, entry-at blocks l, entry-at blocks k) (sym test)
+      tested = rw (entry-at blocks (slot starts j), entry-at blocks (slot starts i), ← bt-is, ← at-is) (sym test)
 
       pub other-name : alike ≡ false → other blocks starts i j ≡ true
       unfolding other

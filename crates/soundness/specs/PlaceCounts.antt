@@ -1,5 +1,5 @@
 -- Blocks counted by owner and place, in one row.
-use Prim.Native.Nat.{ℕ, suc, _+_, _-_, _*_, _≤_, _<_}
+use Prim.Native.Nat.{ℕ, suc, _+_, _*_, _≤_, _<_}
 use mathlib.Core.Path.{_≡_, sym, ap, _∙_}
 use mathlib.Core.Logic.{_≢_, ⊎-elim}
 use mathlib.Core.List.{List}
@@ -15,7 +15,7 @@ use Rattle.records.specs.LoopLaws.{count-start, count-hit, count-miss, howMany-
 use Rattle.records.specs.Tests.{both, either, and-false, same-or-not}
 use Rattle.meaning.specs.File.{needed}
 use Rattle.meaning.specs.Store.{inUse}
-use Rattle.meaning.specs.Tables.{storeOf, blockCount, fileCount, owner, place, holds, isFree, lengthAt, fileLength}
+use Rattle.meaning.specs.Tables.{storeOf, blockCount, fileCount, owner, place, holds, isFree, fileLength}
 use Rattle.meaning.specs.Sound.{filesSound, blockSound, placedOnce}
 use Rattle.soundness.specs.Use.{used}
 use Rattle.soundness.specs.Seen.{filesStore, recordTables}
@@ -36,9 +36,9 @@ pub record PlaceCounts (records : List ℕ) (n : ℕ) (counts : List ℕ) : Type
 unfoldable pub countedBelow : List ℕ → ℕ → ℕ → Bool
 countedBelow counts f n = every n (λ i. eqb (getD counts (64 * f + i) 0) 1)
 
--- each place of the file of record r is
+-- each place of file f is
 unfoldable pub countedOnce : List ℕ → List ℕ → ℕ → Bool
-countedOnce counts files r = countedBelow counts (suc r) (needed (lengthAt files r))
+countedOnce counts files f = countedBelow counts f (needed (fileLength files f))
 
 -- ---- sound block records can be counted so
 
@@ -55,9 +55,7 @@ module _ (records files : List ℕ) (few-blocks : blockCount records ≤ 128) (f
       let (u, p) = both (inUse (storeOf (recordTables records files)) (owner records b)) (ltb (place records b) (needed (fileLength files (owner records b)))) e in
       let is = used (storeOf (recordTables records files)) (owner records b) u in
       let within : owner records b ≤ fileCount files = is .within in
-      let r : owner records b ≡ suc (owner records b - 1) = omega (arith, is .some) in
-      let short : lengthAt files (owner records b - 1) ≤ 32768 = files-short files sound-files (owner records b - 1) (omega (arith, is .some)) in
-      let size : fileLength files (owner records b) ≤ 32768 = rw r (unfold fileLength in short) in
+      let short : fileLength files (owner records b) ≤ 32768 = files-short files sound-files (owner records b) within in
       (omega arith, omega (arith, ltb-true (place records b) (needed (fileLength files (owner records b))) p)))
       (either (isFree records b) _ (every-all (blockCount records) (blockSound (recordTables records files)) sound-blocks b h))
 
@@ -131,11 +129,11 @@ module _ (records : List ℕ) where
 
 pub counted-placed : (records files : List ℕ) (counts : List ℕ) → PlaceCounts records (blockCount records) counts →
     fileCount files ≤ 64 → filesSound (filesStore files) ≡ true →
-    every (fileCount files) (countedOnce counts files) ≡ every (fileCount files) (λ r. placedOnce (recordTables records files) (suc r))
-unfolding countedOnce countedBelow placedOnce fileLength
+    every (fileCount files) (λ r. countedOnce counts files (suc r)) ≡ every (fileCount files) (λ r. placedOnce (recordTables records files) (suc r))
+unfolding countedOnce countedBelow placedOnce
 counted-placed records files counts counted few sound-files =
-    every-cong (fileCount files) (countedOnce counts files) (λ r. placedOnce (recordTables records files) (suc r))
+    every-cong (fileCount files) (λ r. countedOnce counts files (suc r)) (λ r. placedOnce (recordTables records files) (suc r))
     (λ r (h : r < fileCount files).
-    every-cong (needed (lengthAt files r)) (λ i. eqb (getD counts (64 * suc r + i) 0) 1) (λ i. eqb (howMany (blockCount records) (λ b. holds records (suc r) i b)) 1)
-    (λ i (l : i < needed (lengthAt files r)).
-    ap (λ n. eqb n 1) (counted .each (suc r) i (omega arith) (omega arith) (omega (arith, files-short files sound-files r h)))))
+    every-cong (needed (fileLength files (suc r))) (λ i. eqb (getD counts (64 * suc r + i) 0) 1) (λ i. eqb (howMany (blockCount records) (λ b. holds records (suc r) i b)) 1)
+    (λ i (l : i < needed (fileLength files (suc r))).
+    ap (λ n. eqb n 1) (counted .each (suc r) i (omega arith) (omega arith) (omega (arith, files-short files sound-files (suc r) h)))))

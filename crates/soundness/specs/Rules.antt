@@ -9,21 +9,17 @@ use Rattle.records.specs.Rows.{agree, every, howMany}
 use Rattle.meaning.specs.File.{longest}
 use Rattle.meaning.specs.Name.{entryAt, isBlank, same}
 use Rattle.meaning.specs.Store.{Store, root, inUse, isDirectory, held}
-use Rattle.meaning.specs.Tables.{blockCount, holds}
 use Rattle.meaning.specs.Sound.{between, recordSound}
+use Rattle.tables.specs.Searches.{blocksWith}
 use Rattle.soundness.specs.Slots.{slot, Within}
 
--- file record r may be a directory of a depth and a size: the first, and no other, has depth 0
+-- file f may be a directory of a depth and a size: the first, and no other, has depth 0
 unfoldable pub directoryForm : ℕ → ℕ → ℕ → Bool
-directoryForm r depth size = leb depth 7 && leb size longest && eqb (size % 16) 0 && agree (eqb r 0) (eqb depth 0)
-
--- how many blocks are place i of file f
-unfoldable pub placeCount : List ℕ → ℕ → ℕ → ℕ
-placeCount records f i = howMany (blockCount records) (λ b. holds records f i b)
+directoryForm f depth size = leb depth 7 && leb size longest && eqb (size % 16) 0 && agree (eqb f root) (eqb depth 0)
 
 -- each of the first n places of file f has exactly one block
 unfoldable pub placedBelow : List ℕ → ℕ → ℕ → Bool
-placedBelow records f n = every n (λ i. eqb (placeCount records f i) 1)
+placedBelow records f n = every n (λ i. eqb (blocksWith records f i) 1)
 
 -- a count is from 1 up to a most
 unfoldable pub countsTo : ℕ → ℕ → Bool
@@ -77,9 +73,9 @@ isNamedBy s n f =
     || (isDirectory s f && eqb n 1)
     || (not (isDirectory s f) && (ltb 0 n || held s f))
 
--- the file of record r has, by a row of counts; and every file has
+-- the same by a row of counts; and every file has
 unfoldable pub namedBy : Store → List ℕ → ℕ → Bool
-namedBy s counts r = isNamedBy s (getD counts (suc r) 0) (suc r)
+namedBy s counts f = isNamedBy s (getD counts f 0) f
 
 unfoldable pub allNamedBy : Store → List ℕ → Bool
-allNamedBy s counts = every (s .fileCount) (namedBy s counts)
+allNamedBy s counts = every (s .fileCount) (λ r. namedBy s counts (suc r))

@@ -1,12 +1,15 @@
 -- What a rule sees: some rules look at some of the tables alone, and give the same whatever the others hold.
-use Prim.Native.Nat.{ℕ, zero, suc}
-use mathlib.Core.Path.{_≡_, refl}
+use Prim.Native.Nat.{ℕ, zero, suc, _≤_, _<_}
+use mathlib.Core.Path.{_≡_, refl, sym, _∙_}
 use mathlib.Core.List.{List, []}
+use mathlib.Core.Bool.{Bool, false, not}
+use borrow.Author.Tests.{not-false}
 use Rattle.records.specs.RowLaws.{every-cong}
 use Rattle.records.specs.ListLaws.{length-listOf}
 use Rattle.meaning.specs.Store.{Store, inUse, isDirectory}
 use Rattle.meaning.specs.Tables.{Tables, tables, storeOf, fileOf, channelOf, byteOf, fileCount, channelCount, owner, lengthAt, channelFileAt}
 use Rattle.meaning.specs.Sound.{asFree, asOrdinary, asDirectory, fileSound, filesSound, channelSound, channelsSound, blockSound}
+use Rattle.soundness.specs.Use.{Used, used, directory-used}
 
 -- the store of file records alone, of file and channel records, and the tables of block and file records
 abbrev pub filesStore : List ℕ → Store
@@ -17,6 +20,18 @@ channelsStore files channels = storeOf (tables [] [] files channels)
 
 abbrev pub recordTables : List ℕ → List ℕ → Tables
 recordTables records files = tables [] records files []
+
+-- a file in use has a record, and a directory too: where a flag says that it is one
+module _ (files : List ℕ) (f : ℕ) (flag : Bool) where
+  there : Used (filesStore files) f → (0 < f) × (f ≤ fileCount files)
+  unfolding storeOf
+  there u = (u .some, u .within)
+
+  pub used-there : flag ≡ inUse (filesStore files) f → not flag ≡ false → (0 < f) × (f ≤ fileCount files)
+  used-there is so = there (used (filesStore files) f (sym is ∙ not-false flag so))
+
+  pub directory-there : flag ≡ isDirectory (filesStore files) f → not flag ≡ false → (0 < f) × (f ≤ fileCount files)
+  directory-there is so = there (directory-used (filesStore files) f (sym is ∙ not-false flag so))
 
 module _ (t : Tables) where
   pub inUse-seen : (f : ℕ) → inUse (storeOf t) f ≡ inUse (filesStore (t .fileRecords)) f

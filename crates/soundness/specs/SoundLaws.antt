@@ -1,5 +1,5 @@
 -- Soundness as the code tests it: the rules of 01 in the order in which a later one may lean on an earlier one.
-use Prim.Native.Nat.{ℕ, suc, _+_, _*_, _≤_, _<_}
+use Prim.Native.Nat.{ℕ, zero, suc, _+_, _*_, _≤_}
 use mathlib.Core.Path.{_≡_, sym, ap, _∙_}
 use mathlib.Core.List.{List, [], _∷_}
 use mathlib.Core.Bool.{Bool, true, _&&_}
@@ -8,11 +8,10 @@ use Rattle.records.specs.Rows.{allOf, every}
 use Rattle.records.specs.RowLaws.{every-all, every-cong}
 use Rattle.records.specs.Numbers.{zeros}
 use Rattle.records.specs.Tests.{both, and-both, allOf-true, true-allOf, both-ways}
-use Rattle.records.specs.ListLaws.{length-listOf}
 use Rattle.meaning.specs.File.{longest}
-use Rattle.meaning.specs.Tables.{Tables, tables, storeOf, fileOf, byteOf, blockCount, fileCount, lengthAt}
+use Rattle.meaning.specs.Tables.{Tables, tables, storeOf, blockCount, fileCount, channelCount, fileLength}
 use Rattle.meaning.specs.Sound.{lengthsAgree, zerosStand, blockSound, placedOnce, blocksSound, layoutSound, fileSound, filesSound}
-use Rattle.layout.specs.Layout.{Layout, layout}
+use Rattle.layout.specs.Layout.{Layout, layout, length-file}
 use Rattle.layout.specs.Places.{block-there}
 use Rattle.soundness.specs.FormLaws.{file-sound}
 use Rattle.soundness.specs.WellFacts.{form-size}
@@ -20,12 +19,13 @@ use Rattle.soundness.specs.Seen.{filesStore, recordTables, filesSound-se
 use Rattle.soundness.specs.Slots.{Placed}
 
 -- no sound file is longer than 32,768
-pub files-short : (files : List ℕ) → filesSound (filesStore files) ≡ true → (r : ℕ) → r < fileCount files → lengthAt files r ≤ longest
-unfolding filesSound storeOf fileOf
-files-short files e r h =
+pub files-short : (files : List ℕ) → filesSound (filesStore files) ≡ true → (f : ℕ) → f ≤ fileCount files → fileLength files f ≤ longest
+unfolding filesSound storeOf fileLength
+files-short files e zero h = omega arith
+files-short files e (suc r) h =
     let x = filesStore files .file (suc r) in
     let size = form-size x (file-sound x (suc r) (every-all (fileCount files) (λ i. fileSound (suc i) (filesStore files .file (suc i))) e r h) .0) in
-    omega (arith, size, length-listOf (lengthAt files r) (byteOf (tables [] [] files []) (suc r)))
+    omega (arith, size, length-file (tables [] [] files []) (suc r))
 
 abbrev pub zerosIn : List ℕ → Bool
 zerosIn records = every (fileCount records) (λ i. zeros records (8 * i + 2) 2)
@@ -87,5 +87,5 @@ module _ (t : Tables) (e : tablesSound t ≡ true) where
         there = block-there t tables-layout;
       }
 
-  pub tables-few : fileCount (t .fileRecords) ≤ 64
-  tables-few = tables-layout .lengths .few-files
+  pub tables-few : (fileCount (t .fileRecords) ≤ 64) × (channelCount (t .channelRecords) ≤ 16)
+  tables-few = let l = tables-layout .lengths in (l .few-files, l .few-channels)

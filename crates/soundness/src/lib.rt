@@ -1,32 +1,47 @@
 // Whether four lent tables are a sound store, decided on any bytes (01, "A store is sound when all of these hold").
+use meaning::BLOCK_SIZE;
+use meaning::BlockNo;
+use meaning::ChannelNo;
 use meaning::FileNo;
-use names::is_blank;
+use meaning::LAST_POSITION;
+use meaning::LONGEST;
+use meaning::LONGEST_SYLLABLE;
+use meaning::MOST_BLOCKS;
+use meaning::MOST_CHANNELS;
+use meaning::MOST_FILES;
 use names::record_file;
 use records::four_at;
 use records::one_at;
 use records::two_at;
 use records::zeros_at;
-use tables::find_block;
+use tables::block_record;
+use tables::block_start;
+use tables::channel_record;
+use tables::channel_zeros;
+use tables::count_blocks;
+use tables::file_record;
+use tables::file_zeros;
+use tables::held_block;
 use tables::is_held;
+use tables::places;
 ghost use mathlib.Core.Path.{_≡_};
 ghost use mathlib.Core.Bool.{true};
-ghost use Prim.Native.Nat.{suc, _+_, _*_, _≤_, _<_};
+ghost use Prim.Native.Nat.{ℕ, suc, _+_, _-_, _*_, _≤_, _<_};
 ghost use lib.ListN.{length};
 ghost use Rattle.records.specs.Rows.{every};
-ghost use Rattle.records.specs.Numbers.{zeros};
-ghost use Rattle.meaning.specs.Name.{isWritten, same, entryIn, entryAt};
+ghost use Rattle.meaning.specs.Name.{isWritten, same, entryIn};
 ghost use Rattle.meaning.specs.Store.{inUse, isDirectory};
-ghost use Rattle.meaning.specs.Tables.{tables, blockCount, fileCount, channelCount, lengthAt};
+ghost use Rattle.meaning.specs.Tables.{tables, blockCount, fileCount, channelCount, fileLength};
 ghost use Rattle.meaning.specs.Sound.{lengthsAgree, blockSound, placedOnce, fileSound, filesSound, channelSound, channelsSound, recordSound, sound};
 ghost use Rattle.names.specs.RecordNames.{recordFrom};
-ghost use Rattle.soundness.specs.Rules.{countsTo, directoryForm, placeCount, placedBelow, deeperThan, newAt, recordsAt, namesAt, deeperAt, Countable, Counted, isNamedBy, allNamedBy};
+ghost use Rattle.soundness.specs.Rules.{countsTo, directoryForm, placedBelow, deeperThan, newAt, recordsAt, namesAt, deeperAt, Countable, Counted, isNamedBy, allNamedBy};
 ghost use Rattle.soundness.specs.Seen.{filesStore, channelsStore, recordTables};
-ghost use Rattle.soundness.specs.Slots.{directoriesStore, Starts, slot, Placed, Within};
+ghost use Rattle.soundness.specs.Slots.{directoriesStore, Findable, Starts, slot, Placed, Within};
 ghost use Rattle.soundness.specs.RecordRules.{Filled};
 ghost use Rattle.soundness.specs.Chains.{Padded, chainFrom, chainAt, Last, Links};
 ghost use Rattle.soundness.specs.DirectoryRules.{directoryRule, directoriesRule};
 ghost use Rattle.soundness.specs.Counts.{Counts};
-ghost use Rattle.soundness.specs.SoundLaws.{tablesSound};
+ghost use Rattle.soundness.specs.SoundLaws.{zerosIn, tablesSound};
 ghost use Rattle.soundness.specs.PlaceCounts.{Placeable, PlaceCounts, countedBelow, countedOnce};
 
 // Whether f is the number of a file in use.
@@ -39,7 +54,7 @@ pub fn in_use(file_records: &[u8], f: FileNo) -> bool
     if file_records.len() / 8 < f.0 as usize {
         return false;
     }
-    one_at(file_records, 8 * (f.0 as usize - 1)) != 0
+    file_record(file_records, f).kind != 0
 }
 
 // Whether f is a directory in use.
@@ -49,76 +64,18 @@ pub fn is_directory(file_records: &[u8], f: FileNo) -> bool
     if !in_use(file_records, f) {
         return false;
     }
-    one_at(file_records, 8 * (f.0 as usize - 1)) == 2
+    file_record(file_records, f).kind == 2
 }
 
-// Whether the two zeros of every record of 8 bytes stand.
-fn zeros_stand(records: &[u8]) -> bool
-    ensures { λ r. ⌜ r ≡ every (fileCount (now (records .entry))) (λ i. zeros (now (records .entry)) (8 * i + 2) 2) ⌝ }
-{
-    let count = records.len() / 8;
-    let mut i = 0;
-    while i < count {
-        if !zeros_at(records, 8 * i + 2, 2) {
-            return false;
-        }
-        i += 1;
-    }
-    true
-}
-
-// Whether a directory of some depth and size is sound as file record r: the first, and no other, has depth 0.
-fn directory_form(r: usize, depth: u8, size: u32) -> bool
-    ensures { λ b. ⌜ b ≡ directoryForm r depth size ⌝ }
-{
-    let first = r == 0;
-    let top = depth == 0;
-    if first != top {
-        return false;
-    }
-    if 7 < depth {
-        return false;
-    }
-    if 32768 < size {
-        return false;
-    }
-    size % 16 == 0
-}
-
-// Whether file record r has one of the three forms, and is a directory of depth 0 just where it is the first.
-fn file_sound(file_records: &[u8], r: usize) -> bool
-    requires { ⌜ r < fileCount (now «file_records») ⌝ }
-    ensures { λ b. ⌜ b ≡ fileSound (suc r) (filesStore (now («file_records» .entry)) .file (suc r)) ⌝ }
-{
-    let kind = one_at(file_records, 8 * r);
-    let depth = one_at(file_records, 8 * r + 1);
-    let size = four_at(file_records, 8 * r + 4);
-    if kind == 2 {
-        return directory_form(r, depth, size);
-    }
-    if r == 0 {
-        return false;
-    }
-    if depth != 0 {
-        return false;
-    }
-    if kind == 1 {
-        return size <= 32768;
-    }
-    if kind != 0 {
-        return false;
-    }
-    size == 0
-}
-
-// Whether every file record is sound.
-fn files_sound(file_records: &[u8]) -> bool
-    ensures { λ r. ⌜ r ≡ filesSound (filesStore (now («file_records» .entry))) ⌝ }
+// Whether the two zeros of every file record stand.
+fn file_zeros_stand(file_records: &[u8]) -> bool
+    requires { ⌜ fileCount (now «file_records») ≤ 64 ⌝ }
+    ensures { λ b. ⌜ b ≡ zerosIn (now («file_records» .entry)) ⌝ }
 {
     let count = file_records.len() / 8;
     let mut r = 0;
     while r < count {
-        if !file_sound(file_records, r) {
+        if !file_zeros(file_records, FileNo(r as u16 + 1)) {
             return false;
         }
         r += 1;
@@ -126,30 +83,15 @@ fn files_sound(file_records: &[u8]) -> bool
     true
 }
 
-// Whether channel record c is free, or names a file in use with a position that it may have.
-fn channel_sound(file_records: &[u8], channel_records: &[u8], c: usize) -> bool
-    requires { ⌜ c < channelCount (now «channel_records») ⌝ }
-    ensures { λ r. ⌜ r ≡ channelSound (channelsStore (now («file_records» .entry)) (now («channel_records» .entry))) (channelsStore (now («file_records» .entry)) (now («channel_records» .entry)) .channel c) ⌝ }
-{
-    let file = FileNo(two_at(channel_records, 8 * c));
-    let position = four_at(channel_records, 8 * c + 4);
-    if file.0 == 0 {
-        return position == 0;
-    }
-    if !in_use(file_records, file) {
-        return false;
-    }
-    position <= 16777215
-}
-
-// Whether every channel record is sound.
-fn channels_sound(file_records: &[u8], channel_records: &[u8]) -> bool
-    ensures { λ r. ⌜ r ≡ channelsSound (channelsStore (now («file_records» .entry)) (now («channel_records» .entry))) ⌝ }
+// Whether the two zeros of every channel record stand.
+fn channel_zeros_stand(channel_records: &[u8]) -> bool
+    requires { ⌜ channelCount (now «channel_records») ≤ 16 ⌝ }
+    ensures { λ b. ⌜ b ≡ zerosIn (now («channel_records» .entry)) ⌝ }
 {
     let count = channel_records.len() / 8;
     let mut c = 0;
     while c < count {
-        if !channel_sound(file_records, channel_records, c) {
+        if !channel_zeros(channel_records, ChannelNo(c as u32)) {
             return false;
         }
         c += 1;
@@ -157,53 +99,127 @@ fn channels_sound(file_records: &[u8], channel_records: &[u8]) -> bool
     true
 }
 
-// Whether block record b is free, or its owner is in use and has its place.
-fn block_sound(block_records: &[u8], file_records: &[u8], b: usize) -> bool
-    requires { ⌜ b < blockCount (now «block_records») ⌝ }
-    ensures { λ r. ⌜ r ≡ blockSound (recordTables (now («block_records» .entry)) (now («file_records» .entry))) b ⌝ }
+// Whether file f may be a directory of some depth and size: the first, and no other, has depth 0.
+fn directory_form(f: FileNo, depth: u8, size: u32) -> bool
+    ensures { λ b. ⌜ b ≡ directoryForm (f .0) depth size ⌝ }
 {
-    let owner = FileNo(two_at(block_records, 4 * b));
-    let place = two_at(block_records, 4 * b + 2);
+    let first = f.0 == 1;
+    let top = depth == 0;
+    if first != top {
+        return false;
+    }
+    if 7 < depth {
+        return false;
+    }
+    if LONGEST < size {
+        return false;
+    }
+    size % 16 == 0
+}
+
+// Whether file f's record has one of the three forms, and is a directory of depth 0 just where it is the first.
+fn file_sound(file_records: &[u8], f: FileNo) -> bool
+    requires { ⌜ (0 < f .0) × (f .0 ≤ fileCount (now «file_records»)) ⌝ }
+    ensures { λ b. ⌜ b ≡ fileSound (f .0) (filesStore (now («file_records» .entry)) .file (f .0)) ⌝ }
+{
+    let record = file_record(file_records, f);
+    if record.kind == 2 {
+        return directory_form(f, record.depth, record.length);
+    }
+    if f.0 == 1 {
+        return false;
+    }
+    if record.depth != 0 {
+        return false;
+    }
+    if record.kind == 1 {
+        return record.length <= LONGEST;
+    }
+    if record.kind != 0 {
+        return false;
+    }
+    record.length == 0
+}
+
+// Whether every file record is sound.
+fn files_sound(file_records: &[u8]) -> bool
+    requires { ⌜ fileCount (now «file_records») ≤ 64 ⌝ }
+    ensures { λ r. ⌜ r ≡ filesSound (filesStore (now («file_records» .entry))) ⌝ }
+{
+    let count = file_records.len() / 8;
+    let mut r = 0;
+    while r < count {
+        if !file_sound(file_records, FileNo(r as u16 + 1)) {
+            return false;
+        }
+        r += 1;
+    }
+    true
+}
+
+// Whether channel c's record is free, or names a file in use with a position that it may have.
+fn channel_sound(file_records: &[u8], channel_records: &[u8], c: ChannelNo) -> bool
+    requires { ⌜ c .0 < channelCount (now «channel_records») ⌝ }
+    ensures { λ r. ⌜ r ≡ channelSound (channelsStore (now («file_records» .entry)) (now («channel_records» .entry))) (channelsStore (now («file_records» .entry)) (now («channel_records» .entry)) .channel (c .0)) ⌝ }
+{
+    let record = channel_record(channel_records, c);
+    let file = record.file;
+    if file.0 == 0 {
+        return record.position == 0;
+    }
+    if !in_use(file_records, file) {
+        return false;
+    }
+    record.position <= LAST_POSITION
+}
+
+// Whether every channel record is sound.
+fn channels_sound(file_records: &[u8], channel_records: &[u8]) -> bool
+    requires { ⌜ channelCount (now «channel_records») ≤ 16 ⌝ }
+    ensures { λ r. ⌜ r ≡ channelsSound (channelsStore (now («file_records» .entry)) (now («channel_records» .entry))) ⌝ }
+{
+    let count = channel_records.len() / 8;
+    let mut c = 0;
+    while c < count {
+        if !channel_sound(file_records, channel_records, ChannelNo(c as u32)) {
+            return false;
+        }
+        c += 1;
+    }
+    true
+}
+
+// Whether block b's record is free, or its owner is in use and has its place.
+fn block_sound(block_records: &[u8], file_records: &[u8], b: BlockNo) -> bool
+    requires { ⌜ b .0 < blockCount (now «block_records») ⌝ }
+    ensures { λ r. ⌜ r ≡ blockSound (recordTables (now («block_records» .entry)) (now («file_records» .entry))) (b .0) ⌝ }
+{
+    let record = block_record(block_records, b);
+    let owner = record.owner;
     if owner.0 == 0 {
-        return place == 0;
+        return record.place == 0;
     }
     if !in_use(file_records, owner) {
         return false;
     }
-    let size = four_at(file_records, 8 * (owner.0 as usize - 1) + 4);
-    (place as usize) < (size as usize + 511) / 512
+    let size = file_record(file_records, owner).length as usize;
+    (record.place as usize) < places(size)
 }
 
 // Whether every block record is sound.
 fn owners_sound(block_records: &[u8], file_records: &[u8]) -> bool
+    requires { ⌜ blockCount (now «block_records») ≤ 128 ⌝ }
     ensures { λ r. ⌜ r ≡ every (blockCount (now («block_records» .entry))) (blockSound (recordTables (now («block_records» .entry)) (now («file_records» .entry)))) ⌝ }
 {
     let count = block_records.len() / 4;
     let mut b = 0;
     while b < count {
-        if !block_sound(block_records, file_records, b) {
+        if !block_sound(block_records, file_records, BlockNo(b as u16)) {
             return false;
         }
         b += 1;
     }
     true
-}
-
-// How many blocks are place i of file f. Owner and place are compared as one number.
-fn count_place(block_records: &[u8], f: FileNo, i: u16) -> usize
-    ensures { λ r. ⌜ r ≡ placeCount (now («block_records» .entry)) (f .0) i ⌝ }
-{
-    let wanted = f.0 as u32 + 65536 * (i as u32);
-    let count = block_records.len() / 4;
-    let mut found: usize = 0;
-    let mut b = 0;
-    while b < count {
-        if four_at(block_records, 4 * b) == wanted {
-            found += 1;
-        }
-        b += 1;
-    }
-    found
 }
 
 // Whether each of the first n places of file f has exactly one block. The first that has not ends the work.
@@ -212,7 +228,7 @@ fn placed_below(block_records: &[u8], f: FileNo, n: u16) -> bool
 {
     let mut i: u16 = 0;
     while i < n {
-        if count_place(block_records, f, i) != 1 {
+        if count_blocks(block_records, f, i) != 1 {
             return false;
         }
         i += 1;
@@ -220,14 +236,13 @@ fn placed_below(block_records: &[u8], f: FileNo, n: u16) -> bool
     true
 }
 
-// Whether each place of the file of record r has exactly one block.
-fn file_placed(block_records: &[u8], file_records: &[u8], r: usize) -> bool
-    requires { ⌜ (r < fileCount (now «file_records»)) × (r < 64) × (lengthAt (now «file_records») r ≤ 32768) ⌝ }
-    ensures { λ b. ⌜ b ≡ placedOnce (recordTables (now («block_records» .entry)) (now («file_records» .entry))) (suc r) ⌝ }
+// Whether each place of file f has exactly one block.
+fn file_placed(block_records: &[u8], file_records: &[u8], f: FileNo) -> bool
+    requires { ⌜ (0 < f .0) × (f .0 ≤ fileCount (now «file_records»)) × (fileLength (now «file_records») (f .0) ≤ 32768) ⌝ }
+    ensures { λ b. ⌜ b ≡ placedOnce (recordTables (now («block_records» .entry)) (now («file_records» .entry))) (f .0) ⌝ }
 {
-    let size = four_at(file_records, 8 * r + 4);
-    let n = (size + 511) / 512;
-    placed_below(block_records, FileNo(r as u16 + 1), n as u16)
+    let size = file_record(file_records, f).length as usize;
+    placed_below(block_records, f, places(size) as u16)
 }
 
 // Whether each place of each file has exactly one block, each looked for among all. File records are sound, so no file
@@ -239,7 +254,7 @@ fn places_searched(block_records: &[u8], file_records: &[u8]) -> bool
     let count = file_records.len() / 8;
     let mut r = 0;
     while r < count {
-        if !file_placed(block_records, file_records, r) {
+        if !file_placed(block_records, file_records, FileNo(r as u16 + 1)) {
             return false;
         }
         r += 1;
@@ -247,17 +262,24 @@ fn places_searched(block_records: &[u8], file_records: &[u8]) -> bool
     true
 }
 
-// Block b counted as its place of its owner, unless it is free.
-fn count_block(block_records: &[u8], b: usize, counts: &mut [u8; 4160])
-    requires { ⌜ Placeable (now «block_records») ⌝ ∗ ⌜ b < blockCount (now «block_records») ⌝ ∗ ⌜ PlaceCounts (now «block_records») b (now counts) ⌝ }
-    ensures { λ r. ⌜ PlaceCounts (now («block_records» .entry)) (b + 1) (now (counts .exit)) ⌝ }
+// Where the count of place i of file f stands in a row of counts, 64 to a file.
+fn count_at(f: FileNo, i: u16) -> usize
+    ensures { λ r. ⌜ r ≡ 64 * f .0 + i ⌝ }
 {
-    let owner = two_at(block_records, 4 * b);
-    if owner == 0 {
+    64 * (f.0 as usize) + i as usize
+}
+
+// Block b counted as its place of its owner, unless it is free.
+fn count_block(block_records: &[u8], b: BlockNo, counts: &mut [u8; 4160])
+    requires { ⌜ Placeable (now «block_records») ⌝ ∗ ⌜ b .0 < blockCount (now «block_records») ⌝ ∗ ⌜ PlaceCounts (now «block_records») (b .0) (now counts) ⌝ }
+    ensures { λ r. ⌜ PlaceCounts (now («block_records» .entry)) (b .0 + 1) (now (counts .exit)) ⌝ }
+{
+    let record = block_record(block_records, b);
+    let owner = record.owner;
+    if owner.0 == 0 {
         return;
     }
-    let place = two_at(block_records, 4 * b + 2);
-    let k = 64 * (owner as usize) + place as usize;
+    let k = count_at(owner, record.place);
     counts[k] += 1;
 }
 
@@ -270,20 +292,21 @@ fn count_places(block_records: &[u8]) -> [u8; 4160]
     let count = block_records.len() / 4;
     let mut b = 0;
     while b < count {
-        count_block(block_records, b, &mut counts);
+        count_block(block_records, BlockNo(b as u16), &mut counts);
         b += 1;
     }
     counts
 }
 
 // Whether each of the first n places of file f is counted once.
-fn counted_below(counts: &[u8; 4160], f: usize, n: usize) -> bool
-    requires { ⌜ (f ≤ 64) × (n ≤ 64) ⌝ }
-    ensures { λ r. ⌜ r ≡ countedBelow (now (counts .entry)) f n ⌝ }
+fn counted_below(counts: &[u8; 4160], f: FileNo, n: u16) -> bool
+    requires { ⌜ (f .0 ≤ 64) × (n ≤ 64) ⌝ }
+    ensures { λ r. ⌜ r ≡ countedBelow (now (counts .entry)) (f .0) n ⌝ }
 {
-    let mut i: usize = 0;
+    let mut i: u16 = 0;
     while i < n {
-        if counts[64 * f + i] != 1 {
+        let k = count_at(f, i);
+        if counts[k] != 1 {
             return false;
         }
         i += 1;
@@ -291,16 +314,24 @@ fn counted_below(counts: &[u8; 4160], f: usize, n: usize) -> bool
     true
 }
 
+// Whether each place of file f is counted once.
+fn file_counted(file_records: &[u8], counts: &[u8; 4160], f: FileNo) -> bool
+    requires { ⌜ (0 < f .0) × (f .0 ≤ fileCount (now «file_records»)) × (f .0 ≤ 64) × (fileLength (now «file_records») (f .0) ≤ 32768) ⌝ }
+    ensures { λ b. ⌜ b ≡ countedOnce (now (counts .entry)) (now («file_records» .entry)) (f .0) ⌝ }
+{
+    let size = file_record(file_records, f).length as usize;
+    counted_below(counts, f, places(size) as u16)
+}
+
 // Whether each place of each file is counted once.
 fn all_counted(file_records: &[u8], counts: &[u8; 4160]) -> bool
     requires { ⌜ (fileCount (now «file_records») ≤ 64) × (filesSound (filesStore (now «file_records»)) ≡ true) ⌝ }
-    ensures { λ b. ⌜ b ≡ every (fileCount (now («file_records» .entry))) (countedOnce (now (counts .entry)) (now («file_records» .entry))) ⌝ }
+    ensures { λ b. ⌜ b ≡ every (fileCount (now («file_records» .entry))) (λ r. countedOnce (now (counts .entry)) (now («file_records» .entry)) (suc r)) ⌝ }
 {
     let last = file_records.len() / 8;
     let mut r: usize = 0;
     while r < last {
-        let size = four_at(file_records, 8 * r + 4) as usize;
-        if !counted_below(counts, r + 1, (size + 511) / 512) {
+        if !file_counted(file_records, counts, FileNo(r as u16 + 1)) {
             return false;
         }
         r += 1;
@@ -347,16 +378,16 @@ pub fn lengths_agree(
     let b = block_records.len() / 4;
     let f = file_records.len() / 8;
     let c = channel_records.len() / 8;
-    if !counts_to(b, 128) {
+    if !counts_to(b, MOST_BLOCKS) {
         return false;
     }
-    if !counts_to(f, 64) {
+    if !counts_to(f, MOST_FILES) {
         return false;
     }
-    if !counts_to(c, 16) {
+    if !counts_to(c, MOST_CHANNELS) {
         return false;
     }
-    if blocks.len() != 512 * b {
+    if blocks.len() != BLOCK_SIZE * b {
         return false;
     }
     if block_records.len() != 4 * b {
@@ -368,26 +399,27 @@ pub fn lengths_agree(
     channel_records.len() == 8 * c
 }
 
-// The blocks of the first n places of file f, in a row.
+// The blocks of the first n places of file f, in a row. Each place has one.
 fn find_blocks(block_records: &[u8], f: FileNo, n: usize) -> [u16; 64]
-    requires { ⌜ (n ≤ 64) × (blockCount (now «block_records») ≤ 128) ⌝ }
+    requires { ⌜ Findable (now «block_records») (f .0) n ⌝ }
     ensures { λ r. ⌜ Starts (now («block_records» .entry)) (f .0) n r ⌝ }
 {
     let mut starts: [u16; 64] = [0; 64];
     let mut p: usize = 0;
     while p < n {
-        starts[p] = find_block(block_records, f, p as u16) as u16;
+        starts[p] = held_block(block_records, f, p as u16).0;
         p += 1;
     }
     starts
 }
 
-// Where record i of a directory is in the block table, by the row of its blocks.
-fn slot_at(starts: &[u16; 64], i: usize) -> usize
-    requires { ⌜ (i < 2048) × (slot (now starts) i < 4096) ⌝ }
-    ensures { λ r. ⌜ r ≡ slot (now (starts .entry)) i ⌝ }
+// Where record i of a directory starts in the block table, by the row of its blocks.
+fn record_start(starts: &[u16; 64], i: usize) -> usize
+    requires { ⌜ i < 2048 ⌝ }
+    ensures { λ r. ⌜ r ≡ 16 * slot (now (starts .entry)) i ⌝ }
 {
-    32 * (starts[i / 32] as usize) + i % 32
+    let b = BlockNo(starts[i / 32]);
+    block_start(b) + 16 * (i % 32)
 }
 
 // Whether the record that starts at a place has a syllable as its name, and zeros behind it.
@@ -396,13 +428,13 @@ fn is_written(table: &[u8], at: usize) -> bool
     ensures { λ r. ⌜ r ≡ isWritten (recordFrom (now (table .entry)) at) ⌝ }
 {
     let mut i: usize = 0;
-    while i < 14 {
+    while i < LONGEST_SYLLABLE {
         let b = one_at(table, at + 2 + i);
         if b == 0 {
             if i == 0 {
                 return false;
             }
-            return zeros_at(table, at + 2 + i, 14 - i);
+            return zeros_at(table, at + 2 + i, LONGEST_SYLLABLE - i);
         }
         if b == b'/' {
             return false;
@@ -430,14 +462,15 @@ fn same_name(table: &[u8], at: usize, other: usize) -> bool
     two_at(table, at + 14) == two_at(table, other + 14)
 }
 
-// Whether record k of the block table is blank, or names a file in use, not the root, by a syllable.
-fn record_sound(blocks: &[u8], file_records: &[u8], k: usize) -> bool
-    requires { ⌜ 16 * k + 16 ≤ length (now blocks) ⌝ }
-    ensures { λ r. ⌜ r ≡ recordSound (filesStore (now («file_records» .entry))) (now (blocks .entry)) k ⌝ }
+// Whether the record that starts at a place, record k of the block table, is blank, or names a file in use, not the root,
+// by a syllable.
+fn record_sound(blocks: &[u8], file_records: &[u8], at: usize) -> bool
+    requires { ⌜ at + 16 ≤ length (now blocks) ⌝ }
+    ensures { λ r. ⌜ ((k : ℕ) → at ≡ 16 * k → r ≡ recordSound (filesStore (now («file_records» .entry))) (now (blocks .entry)) k) ⌝ }
 {
-    let f = record_file(blocks, 16 * k);
+    let f = record_file(blocks, at);
     if f.0 == 0 {
-        return is_blank(blocks, 16 * k);
+        return zeros_at(blocks, at, 16);
     }
     if f.0 == 1 {
         return false;
@@ -445,19 +478,17 @@ fn record_sound(blocks: &[u8], file_records: &[u8], k: usize) -> bool
     if !in_use(file_records, f) {
         return false;
     }
-    is_written(blocks, 16 * k)
+    is_written(blocks, at)
 }
 
-// Whether what record k of the block table names, if it is a directory, is one deeper than a directory of some depth.
-fn one_deeper(blocks: &[u8], file_records: &[u8], depth: u8, k: usize) -> bool
-    requires { ⌜ 16 * k + 16 ≤ length (now blocks) ⌝ }
-    ensures { λ r. ⌜ r ≡ deeperThan (filesStore (now («file_records» .entry))) depth (entryAt (now (blocks .entry)) k .file) ⌝ }
+// Whether file f, if it is a directory, is one deeper than a directory of some depth.
+fn one_deeper(file_records: &[u8], depth: u8, f: FileNo) -> bool
+    ensures { λ r. ⌜ r ≡ deeperThan (filesStore (now («file_records» .entry))) depth (f .0) ⌝ }
 {
-    let f = record_file(blocks, 16 * k);
     if !is_directory(file_records, f) {
         return true;
     }
-    let its = one_at(file_records, 8 * (f.0 as usize - 1) + 1);
+    let its = file_record(file_records, f).depth;
     its as u16 == depth as u16 + 1
 }
 
@@ -468,7 +499,7 @@ fn records_sound(blocks: &[u8], file_records: &[u8], starts: &[u16; 64], n: usiz
 {
     let mut i: usize = 0;
     while i < n {
-        if !record_sound(blocks, file_records, slot_at(starts, i)) {
+        if !record_sound(blocks, file_records, record_start(starts, i)) {
             return false;
         }
         i += 1;
@@ -481,13 +512,13 @@ fn name_new(blocks: &[u8], starts: &[u16; 64], i: usize) -> bool
     requires { ⌜ Within (now blocks) (now starts) (i + 1) ⌝ ∗ ⌜ Padded (now blocks) (now starts) (i + 1) ⌝ }
     ensures { λ r. ⌜ r ≡ newAt (now (blocks .entry)) (now (starts .entry)) i ⌝ }
 {
-    let at = 16 * slot_at(starts, i);
-    if is_blank(blocks, at) {
+    let at = record_start(starts, i);
+    if zeros_at(blocks, at, 16) {
         return true;
     }
     let mut j: usize = 0;
     while j < i {
-        if same_name(blocks, 16 * slot_at(starts, j), at) {
+        if same_name(blocks, record_start(starts, j), at) {
             return false;
         }
         j += 1;
@@ -529,14 +560,14 @@ fn chain_new(blocks: &[u8], starts: &[u16; 64], links: &[u16; 2048], i: usize, l
     requires { ⌜ Within (now blocks) (now starts) (i + 1) ⌝ ∗ ⌜ Padded (now blocks) (now starts) (i + 1) ⌝ ∗ ⌜ Links (now blocks) (now starts) i (now links) ⌝ ∗ ⌜ Last (now blocks) (now starts) (chainAt (now blocks) (now starts) i) i last ⌝ }
     ensures { λ r. ⌜ r ≡ newAt (now (blocks .entry)) (now (starts .entry)) i ⌝ }
 {
-    let at = 16 * slot_at(starts, i);
-    if is_blank(blocks, at) {
+    let at = record_start(starts, i);
+    if zeros_at(blocks, at, 16) {
         return true;
     }
     let mut next = last as usize;
     while 0 < next {
         let k = next - 1;
-        if same_name(blocks, 16 * slot_at(starts, k), at) {
+        if same_name(blocks, record_start(starts, k), at) {
             return false;
         }
         next = links[k] as usize;
@@ -553,7 +584,7 @@ fn names_chained(blocks: &[u8], starts: &[u16; 64], n: usize) -> bool
     let mut links: [u16; 2048] = [0; 2048];
     let mut i: usize = 0;
     while i < n {
-        let h = chain_of(blocks, 16 * slot_at(starts, i));
+        let h = chain_of(blocks, record_start(starts, i));
         let last = lasts[h];
         if !chain_new(blocks, starts, &links, i, last) {
             return false;
@@ -583,7 +614,8 @@ fn all_deeper(blocks: &[u8], file_records: &[u8], starts: &[u16; 64], n: usize, 
 {
     let mut i: usize = 0;
     while i < n {
-        if !one_deeper(blocks, file_records, depth, slot_at(starts, i)) {
+        let f = record_file(blocks, record_start(starts, i));
+        if !one_deeper(file_records, depth, f) {
             return false;
         }
         i += 1;
@@ -591,17 +623,17 @@ fn all_deeper(blocks: &[u8], file_records: &[u8], starts: &[u16; 64], n: usize, 
     true
 }
 
-// Whether the records of file record r, if that is a directory's, are sound, their names new and what they name one deeper.
-fn directory_sound(blocks: &[u8], block_records: &[u8], file_records: &[u8], r: usize) -> bool
-    requires { ⌜ Placed (now blocks) (now «block_records») (now «file_records») ⌝ ∗ ⌜ r < fileCount (now «file_records») ⌝ }
-    ensures { λ b. ⌜ b ≡ directoryRule (directoriesStore (now (blocks .entry)) (now («block_records» .entry)) (now («file_records» .entry))) (suc r) ⌝ }
+// Whether the records of file f, if that is a directory, are sound, their names new and what they name one deeper.
+fn directory_sound(blocks: &[u8], block_records: &[u8], file_records: &[u8], f: FileNo) -> bool
+    requires { ⌜ Placed (now blocks) (now «block_records») (now «file_records») ⌝ ∗ ⌜ (0 < f .0) × (f .0 ≤ fileCount (now «file_records»)) ⌝ }
+    ensures { λ b. ⌜ b ≡ directoryRule (directoriesStore (now (blocks .entry)) (now («block_records» .entry)) (now («file_records» .entry))) (f .0) ⌝ }
 {
-    if one_at(file_records, 8 * r) != 2 {
+    let record = file_record(file_records, f);
+    if record.kind != 2 {
         return true;
     }
-    let depth = one_at(file_records, 8 * r + 1);
-    let size = four_at(file_records, 8 * r + 4) as usize;
-    let starts = find_blocks(block_records, FileNo(r as u16 + 1), (size + 511) / 512);
+    let size = record.length as usize;
+    let starts = find_blocks(block_records, f, places(size));
     let n = size / 16;
     if !records_sound(blocks, file_records, &starts, n) {
         return false;
@@ -609,7 +641,7 @@ fn directory_sound(blocks: &[u8], block_records: &[u8], file_records: &[u8], r: 
     if !names_new(blocks, &starts, n) {
         return false;
     }
-    all_deeper(blocks, file_records, &starts, n, depth)
+    all_deeper(blocks, file_records, &starts, n, record.depth)
 }
 
 // Whether every directory is sound.
@@ -620,7 +652,7 @@ fn directories_sound(blocks: &[u8], block_records: &[u8], file_records: &[u8]) -
     let count = file_records.len() / 8;
     let mut r = 0;
     while r < count {
-        if !directory_sound(blocks, block_records, file_records, r) {
+        if !directory_sound(blocks, block_records, file_records, FileNo(r as u16 + 1)) {
             return false;
         }
         r += 1;
@@ -635,29 +667,30 @@ fn count_directory(blocks: &[u8], starts: &[u16; 64], n: usize, counts: &mut [u3
 {
     let mut i: usize = 0;
     while i < n {
-        let f = record_file(blocks, 16 * slot_at(starts, i));
+        let f = record_file(blocks, record_start(starts, i));
         let k = f.0 as usize;
         counts[k] += 1;
         i += 1;
     }
 }
 
-// The names that file record r gives, if that is a directory's, added to the count of each file.
+// The names that file f gives, if that is a directory, added to the count of each file.
 fn add_names(
     blocks: &[u8],
     block_records: &[u8],
     file_records: &[u8],
-    r: usize,
+    f: FileNo,
     counts: &mut [u32; 65],
 )
-    requires { ⌜ Placed (now blocks) (now «block_records») (now «file_records») ⌝ ∗ ⌜ r < fileCount (now «file_records») ⌝ ∗ ⌜ directoriesRule (directoriesStore (now blocks) (now «block_records») (now «file_records»)) ≡ true ⌝ ∗ ⌜ Counts (directoriesStore (now blocks) (now «block_records») (now «file_records»)) r (now counts) ⌝ }
-    ensures { λ b. ⌜ Counts (directoriesStore (now (blocks .entry)) (now («block_records» .entry)) (now («file_records» .entry))) (r + 1) (now (counts .exit)) ⌝ }
+    requires { ⌜ Placed (now blocks) (now «block_records») (now «file_records») ⌝ ∗ ⌜ (0 < f .0) × (f .0 ≤ fileCount (now «file_records»)) ⌝ ∗ ⌜ directoriesRule (directoriesStore (now blocks) (now «block_records») (now «file_records»)) ≡ true ⌝ ∗ ⌜ Counts (directoriesStore (now blocks) (now «block_records») (now «file_records»)) (f .0 - 1) (now counts) ⌝ }
+    ensures { λ b. ⌜ Counts (directoriesStore (now (blocks .entry)) (now («block_records» .entry)) (now («file_records» .entry))) (f .0) (now (counts .exit)) ⌝ }
 {
-    if one_at(file_records, 8 * r) != 2 {
+    let record = file_record(file_records, f);
+    if record.kind != 2 {
         return;
     }
-    let size = four_at(file_records, 8 * r + 4) as usize;
-    let starts = find_blocks(block_records, FileNo(r as u16 + 1), (size + 511) / 512);
+    let size = record.length as usize;
+    let starts = find_blocks(block_records, f, places(size));
     count_directory(blocks, &starts, size / 16, counts);
 }
 
@@ -670,7 +703,13 @@ pub fn count_names(blocks: &[u8], block_records: &[u8], file_records: &[u8]) -> 
     let count = file_records.len() / 8;
     let mut r = 0;
     while r < count {
-        add_names(blocks, block_records, file_records, r, &mut counts);
+        add_names(
+            blocks,
+            block_records,
+            file_records,
+            FileNo(r as u16 + 1),
+            &mut counts,
+        );
         r += 1;
     }
     counts
@@ -728,10 +767,10 @@ fn tables_sound(
     if !lengths_agree(blocks, block_records, file_records, channel_records) {
         return false;
     }
-    if !zeros_stand(file_records) {
+    if !file_zeros_stand(file_records) {
         return false;
     }
-    if !zeros_stand(channel_records) {
+    if !channel_zeros_stand(channel_records) {
         return false;
     }
     if !files_sound(file_records) {

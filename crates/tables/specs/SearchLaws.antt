@@ -13,8 +13,8 @@ use Rattle.records.specs.RowLaws.{lowest-cong, howMany-cong}
 use Rattle.records.specs.Tests.{same-or-not}
 use Rattle.records.specs.Numbers.{one, two, four}
 use Rattle.records.specs.NumberLaws.{two-small}
-use Rattle.meaning.specs.Tables.{blockCount, owner, place, holds, isFree, blockOf, kindAt, channelFileAt}
-use Rattle.tables.specs.Searches.{isOfKind, isTo, freeBlockCount}
+use Rattle.meaning.specs.Tables.{blockCount, owner, place, holds, blockOf, kindAt, channelFileAt}
+use Rattle.tables.specs.Searches.{isOfKind, isTo, blocksWith}
 
 module _ (records : List ℕ) where
   pub kind-test : (kind r v : ℕ) → v ≡ one records (8 * r) → isOfKind records kind r ≡ eqb v kind
@@ -35,7 +35,7 @@ pub number-test : (records : List ℕ) (n b v : ℕ) → v ≡ four records (4 *
 number-test records n b v e = ap (λ m. eqb m n) (sym e)
 
 module _ (records : List ℕ) (bytes : (j : ℕ) → getD records j 0 < 256) where
-  pub holds-number : (f i b : ℕ) → f < 65536 → holds records f i b ≡ isNumber records (f + 65536 * i) b
+  holds-number : (f i b : ℕ) → f < 65536 → holds records f i b ≡ isNumber records (f + 65536 * i) b
   unfolding holds owner place four
   holds-number f i b small =
       let o = two records (4 * b) in
@@ -49,12 +49,12 @@ module _ (records : List ℕ) (bytes : (j : ℕ) → getD records j 0 < 256) whe
       (λ (s : o ≢ f). rw (ne-eqb o f s, ne-eqb (o + 65536 * p) (f + 65536 * i) (omega arith)))
       (same-or-not o f)
 
-  pub blockOf-number : (f i : ℕ) → f < 65536 → blockOf records f i ≡ lowest (blockCount records) (isNumber records (f + 65536 * i))
+  pub blockOf-number : (f i n : ℕ) → f < 65536 → n ≡ f + 65536 * i → blockOf records f i ≡ lowest (blockCount records) (isNumber records n)
   unfolding blockOf
-  blockOf-number f i small =
-      lowest-cong (blockCount records) (λ b. holds records f i b) (isNumber records (f + 65536 * i)) (λ b h. holds-number f i b small)
+  blockOf-number f i n small e =
+      rw e (lowest-cong (blockCount records) (λ b. holds records f i b) (isNumber records (f + 65536 * i)) (λ b h. holds-number f i b small))
 
-  pub freeBlockCount-number : freeBlockCount records ≡ howMany (blockCount records) (isNumber records 0)
-  unfolding freeBlockCount
-  freeBlockCount-number =
-      howMany-cong (blockCount records) (λ b. isFree records b) (isNumber records 0) (λ b h. holds-number 0 0 b (omega arith))
+  pub blocksWith-number : (f i n : ℕ) → f < 65536 → n ≡ f + 65536 * i → blocksWith records f i ≡ howMany (blockCount records) (isNumber records n)
+  unfolding blocksWith
+  blocksWith-number f i n small e =
+      rw e (howMany-cong (blockCount records) (λ b. holds records f i b) (isNumber records (f + 65536 * i)) (λ b h. holds-number f i b small))

@@ -1,11 +1,29 @@
 -- What the searches and counts over the records answer.
-use Prim.Native.Nat.{ℕ}
+use Prim.Native.Nat.{ℕ, _+_}
 use mathlib.Core.List.{List}
 use mathlib.Core.Bool.{Bool}
-use lib.Dec.{eqb}
-use Rattle.records.specs.Rows.{lowest, howMany, sum}
+use lib.Dec.{eqb, ltb}
+use Rattle.records.specs.Rows.{pick, lowest, howMany, sum}
 use Rattle.meaning.specs.File.{needed}
-use Rattle.meaning.specs.Tables.{blockCount, fileCount, channelCount, kindAt, lengthAt, channelFileAt, isFree}
+use Rattle.meaning.specs.Tables.{blockCount, fileCount, channelCount, kindAt, lengthAt, channelFileAt, holds, isFree}
+use Rattle.tables.specs.declared.FoundBlock as block
+use Rattle.tables.specs.declared.FoundFile as file
+use Rattle.tables.specs.declared.FoundChannel as channel
+
+-- the block, the file or the channel of a record that a search over `count` records ended at: one of them, or none.
+-- Block b's record is number b, channel c's number c, and file r + 1's number r.
+unfoldable pub blockFound : ℕ → ℕ → block.FoundBlock
+blockFound count b = pick (ltb b count) (block.the-variants.At (record { 0 = b })) block.the-variants.Nowhere
+
+unfoldable pub fileFound : ℕ → ℕ → file.FoundFile
+fileFound count r = pick (ltb r count) (file.the-variants.At (record { 0 = r + 1 })) file.the-variants.Nowhere
+
+unfoldable pub channelFound : ℕ → ℕ → channel.FoundChannel
+channelFound count c = pick (ltb c count) (channel.the-variants.At (record { 0 = c })) channel.the-variants.Nowhere
+
+-- how many blocks are place i of file f
+unfoldable pub blocksWith : List ℕ → ℕ → ℕ → ℕ
+blocksWith records f i = howMany (blockCount records) (λ b. holds records f i b)
 
 -- how many blocks are free
 unfoldable pub freeBlockCount : List ℕ → ℕ

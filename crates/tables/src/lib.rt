@@ -1,4 +1,5 @@
 // Records of the lent tables as structs, and searches over them.
+use meaning::BLOCK_SIZE;
 use meaning::BlockNo;
 use meaning::ChannelNo;
 use meaning::FileNo;
@@ -8,14 +9,16 @@ use records::put_four;
 use records::put_one;
 use records::put_two;
 use records::two_at;
+use records::zeros_at;
 ghost use mathlib.Core.Path.{_≡_};
-ghost use Prim.Native.Nat.{_-_, _≤_, _<_};
+ghost use Prim.Native.Nat.{_+_, _-_, _*_, _≤_, _<_};
 ghost use lib.ListN.{length};
 ghost use lib.Dec.{ltb};
-ghost use Rattle.records.specs.Numbers.{withRecord};
+ghost use Rattle.records.specs.Numbers.{zeros, withRecord};
+ghost use Rattle.meaning.specs.File.{needed};
 ghost use Rattle.meaning.specs.Tables.{blockCount, fileCount, channelCount, blockRecord, fileRecord, channelRecord, blockOf};
 ghost use Rattle.tables.specs.Read.{BlockRead, FileRead, ChannelRead};
-ghost use Rattle.tables.specs.Searches.{freeBlockCount, fileWith, filesWith, channelWith, channelsWith};
+ghost use Rattle.tables.specs.Searches.{blocksWith, freeBlockCount, blockFound, fileWith, fileFound, filesWith, channelWith, channelFound, channelsWith};
 
 pub struct BlockRecord {
     pub owner: FileNo,
@@ -71,6 +74,38 @@ pub fn channel_record(records: &[u8], c: ChannelNo) -> ChannelRecord
     ChannelRecord { file, position }
 }
 
+// Whether the two zeros of record r stand, in a table of records of 8 bytes.
+fn zeros_of(records: &[u8], r: usize) -> bool
+    requires { ⌜ r < fileCount (now records) ⌝ }
+    ensures { λ b. ⌜ b ≡ zeros (now (records .entry)) (8 * r + 2) 2 ⌝ }
+{
+    zeros_at(records, 8 * r + 2, 2)
+}
+
+// Whether the two zeros of file f's record stand.
+pub fn file_zeros(records: &[u8], f: FileNo) -> bool
+    requires { ⌜ (0 < f .0) × (f .0 ≤ fileCount (now records)) ⌝ }
+    ensures { λ b. ⌜ b ≡ zeros (now (records .entry)) (8 * (f .0 - 1) + 2) 2 ⌝ }
+{
+    zeros_of(records, f.0 as usize - 1)
+}
+
+// Whether the two zeros of channel c's record stand.
+pub fn channel_zeros(records: &[u8], c: ChannelNo) -> bool
+    requires { ⌜ c .0 < channelCount (now records) ⌝ }
+    ensures { λ b. ⌜ b ≡ zeros (now (records .entry)) (8 * c .0 + 2) 2 ⌝ }
+{
+    zeros_of(records, c.0 as usize)
+}
+
+// How many places a file of n bytes has.
+pub fn places(n: usize) -> usize
+    requires { ⌜ n ≤ 4294967295 ⌝ }
+    ensures { λ r. ⌜ r ≡ needed n ⌝ }
+{
+    (n + 511) / 512
+}
+
 // Block b's record written.
 pub fn put_block_record(records: &mut [u8], b: BlockNo, record: BlockRecord)
     requires { ⌜ b .0 < blockCount (now records) ⌝ }
@@ -104,59 +139,114 @@ pub fn put_channel_record(records: &mut [u8], c: ChannelNo, record: ChannelRecor
     put_four(records, at + 4, record.position);
 }
 
-// The block that is place i of file f, or the number of blocks where there is none.
-// Owner and place are compared as one number.
-pub fn find_block(records: &[u8], f: FileNo, i: u16) -> usize
-    ensures { λ r. ⌜ r ≡ blockOf (now (records .entry)) (f .0) i ⌝ }
+// What a search for a block finds.
+pub enum FoundBlock {
+    At(BlockNo),
+    Nowhere,
+}
+
+// What a search for a file finds.
+pub enum FoundFile {
+    At(FileNo),
+    Nowhere,
+}
+
+// What a search for a channel finds.
+pub enum FoundChannel {
+    At(ChannelNo),
+    Nowhere,
+}
+
+// The record of a block that is place i of file f, as one number.
+fn place_number(f: FileNo, i: u16) -> u32
+    ensures { λ r. ⌜ r ≡ f .0 + 65536 * i ⌝ }
 {
-    let wanted = f.0 as u32 + 65536 * (i as u32);
+    f.0 as u32 + 65536 * (i as u32)
+}
+
+// The block that is place i of file f, if there is one. Owner and place are compared as one number.
+pub fn find_block(records: &[u8], f: FileNo, i: u16) -> FoundBlock
+    requires { ⌜ blockCount (now records) ≤ 65536 ⌝ }
+    ensures { λ r. ⌜ r ≡ blockFound (blockCount (now (records .entry))) (blockOf (now (records .entry)) (f .0) i) ⌝ }
+{
+    let wanted = place_number(f, i);
     let count = records.len() / 4;
     let mut b = 0;
     while b < count {
         if four_at(records, 4 * b) == wanted {
-            return b;
+            return FoundBlock::At(BlockNo(b as u16));
         }
         b += 1;
     }
-    count
+    FoundBlock::Nowhere
 }
 
-// The lowest free block, or the number of blocks where none is free.
-pub fn lowest_free_block(records: &[u8]) -> usize
-    ensures { λ r. ⌜ r ≡ blockOf (now (records .entry)) 0 0 ⌝ }
+// The block of a place that has one. What is looked for is there, so the search tests no end.
+pub fn held_block(records: &[u8], f: FileNo, i: u16) -> BlockNo
+    requires { ⌜ (blockCount (now records) ≤ 65536) × (blockOf (now records) (f .0) i < blockCount (now records)) ⌝ }
+    ensures { λ r. ⌜ r .0 ≡ blockOf (now (records .entry)) (f .0) i ⌝ }
 {
-    find_block(records, FileNo(0), 0)
+    let wanted = place_number(f, i);
+    let mut b = 0;
+    while four_at(records, 4 * b) != wanted {
+        b += 1;
+    }
+    BlockNo(b as u16)
+}
+
+// Where block b's bytes start in the block table.
+pub fn block_start(b: BlockNo) -> usize
+    ensures { λ r. ⌜ r ≡ 512 * b .0 ⌝ }
+{
+    BLOCK_SIZE * (b.0 as usize)
+}
+
+// Where the bytes of a place that has a block start in the block table.
+pub fn place_start(records: &[u8], f: FileNo, i: u16) -> usize
+    requires { ⌜ (blockCount (now records) ≤ 65536) × (blockOf (now records) (f .0) i < blockCount (now records)) ⌝ }
+    ensures { λ r. ⌜ r ≡ 512 * blockOf (now (records .entry)) (f .0) i ⌝ }
+{
+    block_start(held_block(records, f, i))
+}
+
+// How many blocks are place i of file f. Owner and place are compared as one number.
+pub fn count_blocks(records: &[u8], f: FileNo, i: u16) -> usize
+    ensures { λ r. ⌜ r ≡ blocksWith (now (records .entry)) (f .0) i ⌝ }
+{
+    let wanted = place_number(f, i);
+    let count = records.len() / 4;
+    let mut found: usize = 0;
+    let mut b = 0;
+    while b < count {
+        if four_at(records, 4 * b) == wanted {
+            found += 1;
+        }
+        b += 1;
+    }
+    found
 }
 
 // How many blocks are free.
 pub fn count_free_blocks(records: &[u8]) -> usize
     ensures { λ r. ⌜ r ≡ freeBlockCount (now (records .entry)) ⌝ }
 {
-    let count = records.len() / 4;
-    let mut free: usize = 0;
-    let mut b = 0;
-    while b < count {
-        if four_at(records, 4 * b) == 0 {
-            free += 1;
-        }
-        b += 1;
-    }
-    free
+    count_blocks(records, FileNo(0), 0)
 }
 
-// The lowest file record of a kind, or the number of files where there is none. Kind 0: the lowest free one.
-pub fn find_file(records: &[u8], kind: u8) -> usize
-    ensures { λ r. ⌜ r ≡ fileWith (now (records .entry)) kind ⌝ }
+// The lowest file of a kind, if there is one. Kind 0: the lowest free one. Record r is file r + 1's.
+pub fn find_file(records: &[u8], kind: u8) -> FoundFile
+    requires { ⌜ fileCount (now records) < 65536 ⌝ }
+    ensures { λ r. ⌜ r ≡ fileFound (fileCount (now (records .entry))) (fileWith (now (records .entry)) kind) ⌝ }
 {
     let count = records.len() / 8;
     let mut r = 0;
     while r < count {
         if one_at(records, 8 * r) == kind {
-            return r;
+            return FoundFile::At(FileNo(r as u16 + 1));
         }
         r += 1;
     }
-    count
+    FoundFile::Nowhere
 }
 
 // How many file records have a kind. Kind 0: how many are free.
@@ -175,19 +265,20 @@ pub fn count_files(records: &[u8], kind: u8) -> usize
     found
 }
 
-// The lowest channel that holds file f, or the number of channels where none does. File 0: the lowest free one.
-pub fn find_channel(records: &[u8], f: FileNo) -> usize
-    ensures { λ r. ⌜ r ≡ channelWith (now (records .entry)) (f .0) ⌝ }
+// The lowest channel that holds file f, if there is one. File 0: the lowest free one.
+pub fn find_channel(records: &[u8], f: FileNo) -> FoundChannel
+    requires { ⌜ channelCount (now records) ≤ 4294967296 ⌝ }
+    ensures { λ r. ⌜ r ≡ channelFound (channelCount (now (records .entry))) (channelWith (now (records .entry)) (f .0)) ⌝ }
 {
     let count = records.len() / 8;
     let mut c = 0;
     while c < count {
         if two_at(records, 8 * c) == f.0 {
-            return c;
+            return FoundChannel::At(ChannelNo(c as u32));
         }
         c += 1;
     }
-    count
+    FoundChannel::Nowhere
 }
 
 // How many channels hold file f. File 0: how many are free.
@@ -210,5 +301,5 @@ pub fn count_channels(records: &[u8], f: FileNo) -> usize
 pub fn is_held(records: &[u8], f: FileNo) -> bool
     ensures { λ r. ⌜ r ≡ ltb 0 (channelsWith (now (records .entry)) (f .0)) ⌝ }
 {
-    find_channel(records, f) < records.len() / 8
+    0 < count_channels(records, f)
 }

@@ -16,19 +16,19 @@ abbrev μ-loop : tie.MeasureT-loop
 loop-holds : tie.Need-loop-holds Inv-loop μ-loop
 loop-holds c = (search needs, search in-run)
 
-mul-is-blank : tie.Need-mul-is-blank Inv-loop μ-loop
-mul-is-blank c = search needs
+mul-zeros-at : tie.Need-mul-zeros-at Inv-loop μ-loop
+mul-zeros-at c = search needs
 
-add-is-blank : tie.Need-add-is-blank Inv-loop μ-loop
-add-is-blank c = search needs
+add-zeros-at : tie.Need-add-zeros-at Inv-loop μ-loop
+add-zeros-at c = search needs
 
-is-blank-requires : tie.Need-is-blank-requires Inv-loop μ-loop
-is-blank-requires c κs = search needs
+zeros-at-requires : tie.Need-zeros-at-requires Inv-loop μ-loop
+zeros-at-requires c κs = search needs
 
 returns : tie.Need-returns Inv-loop μ-loop
 returns c =
     let l = c .before .before .before in
-    run-found _ _ _ _ (l .loop .inv .1) (search needs) _ (blank-test _ _ _ (c .before .is-blank .ensures)) (c .if1 .taken)
+    run-found _ _ _ _ (l .loop .inv .1) (search needs) _ (blank-test _ _ _ (c .before .zeros-at .ensures)) (c .if1 .taken)
 
 add-j : tie.Need-add-j Inv-loop μ-loop
 add-j c = search needs
@@ -39,7 +39,7 @@ loop-less c = search needs
 loop-again : tie.Need-loop-again Inv-loop μ-loop
 loop-again c =
     let read = c .before in
-    (search needs, run-passed _ _ _ _ (read .before .before .loop .inv .1) (search needs) _ (blank-test _ _ _ (read .is-blank .ensures)) (c .if1 .left))
+    (search needs, run-passed _ _ _ _ (read .before .before .loop .inv .1) (search needs) _ (blank-test _ _ _ (read .zeros-at .ensures)) (c .if1 .left))
 
 returns-2 : tie.Need-returns-2 Inv-loop μ-loop
 returns-2 c = run-none _ _ _ _ (c .before .loop .inv .1) (search needs) (search needs)
@@ -51,9 +51,9 @@ find-blank-in-run-spec =
     Inv-loop
     μ-loop
     loop-holds
-    mul-is-blank
-    add-is-blank
-    is-blank-requires
+    mul-zeros-at
+    add-zeros-at
+    zeros-at-requires
     returns
     add-j
     loop-less

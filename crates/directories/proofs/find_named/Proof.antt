@@ -1,11 +1,10 @@
 -- What is left of the runs gives what the whole directory gives; the measure is how many records are left.
 use Prim.Native.Nat.{_-_, _*_, _≤_}
 use mathlib.Core.Path.{_≡_}
-use native.Mathlib.Omega.{arith}
 use borrow.Author.Needs.{needs}
 use Rattle.names.specs.Syllables.{part}
 use Rattle.directories.specs.Find.{namedAt, placeLowest}
-use Rattle.directories.specs.FindLaws.{leftIn, in-places, places-found, places-passed, places-none, block-inside, run-inside}
+use Rattle.directories.specs.FindLaws.{leftIn, in-places, places-found, places-passed, places-none, run-held, run-inside}
 use Rattle.directories.proofs.find_named.Statement.{statement}
 use Rattle.directories.proofs.find_named.Tie as tie
 
@@ -21,25 +20,19 @@ loop-holds c = (search needs, search in-places)
 mul-loop : tie.Need-mul-loop Inv-loop μ-loop
 mul-loop c = search needs
 
-cast-find-block : tie.Need-cast-find-block Inv-loop μ-loop
-cast-find-block c = search needs
+cast-place-start : tie.Need-cast-place-start Inv-loop μ-loop
+cast-place-start c = search needs
 
-find-block-requires : tie.Need-find-block-requires Inv-loop μ-loop
-find-block-requires c κs = search needs
+place-start-requires : tie.Need-place-start-requires Inv-loop μ-loop
+place-start-requires c κs = run-held _ _ _ _ _ (c .before .before .before .before .before .pre .0) (search needs)
 
 run-size-requires : tie.Need-run-size-requires Inv-loop μ-loop
 run-size-requires c κs = search needs
 
-mul-find-named-in-run : tie.Need-mul-find-named-in-run Inv-loop μ-loop
-mul-find-named-in-run c =
-    let start = c .before .before .before .before .before .before .before in
-    let inside = block-inside _ _ _ _ _ (start .pre .0) _ (c .before .find-block .ensures) (search needs) in
-    omega arith
-
 find-named-in-run-requires : tie.Need-find-named-in-run-requires Inv-loop μ-loop
 find-named-in-run-requires c κs =
     let start = c .before .before .before .before .before .before .before in
-    (run-inside _ _ _ _ _ (start .pre .0) _ (c .before .find-block .ensures) (search needs) _ (c .run-size .ensures), start .pre .1)
+    (run-inside _ _ _ _ _ (start .pre .0) _ (c .before .place-start .ensures) (search needs) _ (c .run-size .ensures), start .pre .1)
 
 mul-result : tie.Need-mul-result Inv-loop μ-loop
 mul-result c = search needs
@@ -51,7 +44,7 @@ returns : tie.Need-returns Inv-loop μ-loop
 returns c =
     let run = c .before in
     let block = run .before .before in
-    places-found _ _ _ _ _ (block .before .before .loop .inv .1) _ (block .find-block .ensures) (search needs) _ (run .before .run-size .ensures) _ (run .find-named-in-run .ensures) (search needs)
+    places-found _ _ _ _ _ (block .before .before .loop .inv .1) _ (block .place-start .ensures) (search needs) _ (run .before .run-size .ensures) _ (run .find-named-in-run .ensures) (search needs)
 
 add-k : tie.Need-add-k Inv-loop μ-loop
 add-k c = search needs
@@ -63,7 +56,7 @@ loop-again : tie.Need-loop-again Inv-loop μ-loop
 loop-again c =
     let run = c .before in
     let block = run .before .before in
-    (search needs, places-passed _ _ _ _ _ (block .before .before .loop .inv .1) _ (block .find-block .ensures) (search needs) _ (run .before .run-size .ensures) _ (run .find-named-in-run .ensures) (search needs))
+    (search needs, places-passed _ _ _ _ _ (block .before .before .loop .inv .1) _ (block .place-start .ensures) (search needs) _ (run .before .run-size .ensures) _ (run .find-named-in-run .ensures) (search needs))
 
 returns-2 : tie.Need-returns-2 Inv-loop μ-loop
 returns-2 c = places-none _ _ _ _ _ (c .before .loop .inv .1) (search needs)
@@ -76,10 +69,9 @@ find-named-spec =
     μ-loop
     loop-holds
     mul-loop
-    cast-find-block
-    find-block-requires
+    cast-place-start
+    place-start-requires
     run-size-requires
-    mul-find-named-in-run
     find-named-in-run-requires
     mul-result
     add-result

@@ -26,6 +26,7 @@ module _ (blocks records files : List ℕ) (f at : ℕ) (has : HasFile blocks re
       let few = needs-within t (has .layout) f (has .to-last) in
       let lengths = has .layout .lengths in
       record {
+        few = lengths .few-blocks;
         near = λ k (l : at ≤ k) (u : k < at + n). omega (arith, file-size, lengths .few-blocks);
         whole = lengths .blocks;
         each = λ k (l : at ≤ k) (u : k < at + n). has .layout .exact f (k / 512) (omega (arith, file-size));

@@ -1,7 +1,6 @@
 -- Each return is a case of what mkdir gives on a new name in a directory, by the tests that led there.
-use Prim.Native.Nat.{ℕ, _+_, _-_, _*_, _≤_, max}
+use Prim.Native.Nat.{ℕ, _+_, _-_, _*_, _≤_, _<_, max}
 use mathlib.Core.Path.{_≡_, _∙_}
-use mathlib.Core.Logic.{_≢_}
 use mathlib.Core.List.{List}
 use mathlib.Core.Bool.{false}
 use native.Mathlib.Omega.{arith}
@@ -10,7 +9,10 @@ use Rattle.meaning.specs.Tables.{Tables, tables, storeOf, fileCount, fileLength
 use Rattle.meaning.specs.Result.{nowhere}
 use Rattle.meaning.specs.declared.Report.{Report}
 use Rattle.meaning.specs.declared.Report.the-variants.{NoFreeFids}
-use Rattle.tables.specs.Searches.{fileWith, freeBlockCount}
+use Rattle.meaning.specs.declared.FileNo.{FileNo}
+use Rattle.tables.specs.declared.FoundFile.{FoundFile}
+use Rattle.tables.specs.declared.FoundFile.the-variants as N
+use Rattle.tables.specs.Searches.{fileWith, fileFound, freeBlockCount}
 use Rattle.layout.specs.Layout.{sound-layout}
 use Rattle.lookup.specs.Filed.{filed, directory-here}
 use Rattle.lookup.specs.LookLaws.{directory-there}
@@ -22,7 +24,6 @@ use Rattle.recording.specs.Fit.{FitsIn}
 use Rattle.recording.specs.declared.Fit.{Fit}
 use Rattle.recording.specs.declared.Fit.the-variants as F
 use Rattle.folders.specs.Make.{NewName, Made}
-use Rattle.placing.specs.Free.{file-within}
 use Rattle.placing.specs.NewName.{deep, few-records}
 use Rattle.folders.specs.MakeLaws.{its-depth, shallow}
 use Rattle.folders.specs.MakeCases.{no-file, no-fit, makes}
@@ -57,25 +58,31 @@ module _ (b br fr cr bytes : List ℕ) (x : Located) (new : NewName b br fr cr b
   few-so : (i : ℕ) → Recorded (filed b br fr) bytes i → (fileLength fr (x .parent .0) ≤ 32768) × (i ≤ 2048)
   few-so i recorded = few-records t bytes (new .k) x at (new .none) here i (found-record b br fr cr bytes (new .k) x at i recorded)
 
-  module _ (r : ℕ) (free : r ≡ fileWith fr 0) where
-    file-few : r ≤ 64
-    file-few = omega (arith, file-within t r free, sound-layout t (at .ok) .lengths .few-files)
+  few-files : fileCount fr < 65536
+  few-files = omega (arith, sound-layout t (at .ok) .lengths .few-files)
 
-    no-file-so : r ≡ fileCount fr → Made t bytes (No NoFreeFids)
-    no-file-so = no-file t bytes (new .k) x at (new .few) (new .none) (new .is-directory) r free
+  module _ (z : FoundFile) (free : z ≡ fileFound (fileCount fr) (fileWith fr 0)) where
+    no-file-so : z ≡ N.Nowhere → Made t bytes (No NoFreeFids)
+    no-file-so = no-file t bytes (new .k) x at (new .few) (new .none) (new .is-directory) z free
 
-    module _ (some : r ≢ fileCount fr) (i : ℕ) (recorded : Recorded (filed b br fr) bytes i) (fit : Fit)
+    module _ (f : FileNo) (some : z ≡ N.At f) (i : ℕ) (recorded : Recorded (filed b br fr) bytes i) (fit : Fit)
         (fits : FitsIn (freeBlockCount br) (fileLength fr (x .parent .0)) (max (fileLength fr (x .parent .0)) (16 * i + 16)) fit) where
       no-fit-so : (why : Report) → fit ≡ F.No why → Made t bytes (No why)
       no-fit-so =
-          no-fit t bytes (new .k) x at (new .few) (new .none) (new .is-directory) r free some i (found-record b br fr cr bytes (new .k) x at i recorded) fit fits
+          no-fit t bytes (new .k) x at (new .few) (new .none) (new .is-directory) z free f some i (found-record b br fr cr bytes (new .k) x at i recorded) fit fits
 
-      makes-so : fit ≡ F.Fits → (depth : ℕ) → depth ≡ depthAt fr (x .parent .0 - 1) → Made t bytes (Of (x .parent) i (record { 0 = r + 1 }) (depth + 1))
+      makes-so : fit ≡ F.Fits → (depth : ℕ) → depth ≡ depthAt fr (x .parent .0 - 1) → Made t bytes (Of (x .parent) i f (depth + 1))
       makes-so =
-          makes t bytes (new .k) x at (new .few) (new .none) (new .is-directory) r free some i (found-record b br fr cr bytes (new .k) x at i recorded) fit fits
+          makes t bytes (new .k) x at (new .few) (new .none) (new .is-directory) z free f some i (found-record b br fr cr bytes (new .k) x at i recorded) fit fits
 
 find-file-requires : tie.Need-find-file-requires
-find-file-requires c κs = search needs
+find-file-requires c κs = search few-files
+
+enum-known-new : tie.Need-enum-known-new
+enum-known-new c = search needs
+
+enum-told : tie.Need-enum-told
+enum-told c = search needs
 
 returns : tie.Need-returns
 returns c = search no-file-so
@@ -84,35 +91,23 @@ record-for-requires : tie.Need-record-for-requires
 record-for-requires c κs = search in-place
 
 file-record-requires : tie.Need-file-record-requires
-file-record-requires c κs = directory-there _ _ (c .before .before .before .before .before .before .before .before .before .pre .is-directory)
+file-record-requires c κs = directory-there _ _ (c .before .before .before .before .before .before .before .before .before .before .before .pre .is-directory)
 
 record-fits-requires : tie.Need-record-fits-requires
 record-fits-requires c κs =
-    let start = c .before .before .before .before .before .before .before .before .before .before in
+    let start = c .before .before .before .before .before .before .before .before .before .before .before .before in
     (start .pre .is-directory, few-so _ _ _ _ _ _ (start .pre) _ (c .before .record-for .ensures))
 
 enum-known-fit : tie.Need-enum-known-fit
 enum-known-fit c = search needs
 
-enum-told : tie.Need-enum-told
-enum-told c = search needs
+enum-told-2 : tie.Need-enum-told-2
+enum-told-2 c = search needs
 
-cast-t19 : tie.Need-cast-t19
-cast-t19 c =
-    let found = c .before .before .before .before .before .before in
-    let few = file-few _ _ _ _ _ _ (found .before .before .before .before .before .before .before .pre) _ (found .find-file .ensures) in
-    omega arith
-
-add-t20 : tie.Need-add-t20
-add-t20 c =
-    let found = c .before .before .before .before .before .before in
-    let few = file-few _ _ _ _ _ _ (found .before .before .before .before .before .before .before .pre) _ (found .find-file .ensures) in
-    omega arith
-
-add-t22 : tie.Need-add-t22
-add-t22 c =
+add-t17 : tie.Need-add-t17
+add-t17 c =
     let read = c .before .before .before in
-    let few = depth-few _ _ _ _ _ _ (read .before .before .before .before .before .before .before .before .before .before .pre) _ (read .file-record .ensures .depth) in
+    let few = depth-few _ _ _ _ _ _ (read .before .before .before .before .before .before .before .before .before .before .before .before .pre) _ (read .file-record .ensures .depth) in
     omega arith
 
 returns-2 : tie.Need-returns-2
@@ -126,14 +121,14 @@ decide-new-spec =
     tie.close
     (tie.spec
     find-file-requires
+    enum-known-new
+    enum-told
     returns
     record-for-requires
     file-record-requires
     record-fits-requires
     enum-known-fit
-    enum-told
-    cast-t19
-    add-t20
-    add-t22
+    enum-told-2
+    add-t17
     returns-2
     returns-3)

@@ -4,7 +4,7 @@ use mathlib.Core.Path.{_≡_}
 use native.Mathlib.Omega.{arith}
 use borrow.Author.Needs.{needs}
 use lib.ListN.{length}
-use Rattle.directories.specs.FindLaws.{block-inside}
+use Rattle.directories.specs.FindLaws.{run-held, block-inside}
 use Rattle.listing.specs.Names.{placeCount}
 use Rattle.listing.specs.RunLaws.{passed, places-count-start, places-counted, run-small, places-count-end}
 use Rattle.listing.proofs.count_names.Statement.{statement}
@@ -22,20 +22,17 @@ loop-holds c = (search needs, search needs, search places-count-start)
 mul-loop : tie.Need-mul-loop Inv-loop μ-loop
 mul-loop c = search needs
 
-cast-find-block : tie.Need-cast-find-block Inv-loop μ-loop
-cast-find-block c = search needs
+cast-place-start : tie.Need-cast-place-start Inv-loop μ-loop
+cast-place-start c = search needs
 
-find-block-requires : tie.Need-find-block-requires Inv-loop μ-loop
-find-block-requires c κs = search needs
+place-start-requires : tie.Need-place-start-requires Inv-loop μ-loop
+place-start-requires c κs = run-held _ _ _ _ _ (c .before .before .before .before .pre) (search needs)
 
 run-size-requires : tie.Need-run-size-requires Inv-loop μ-loop
 run-size-requires c κs = search needs
 
-mul-count-names-in-run : tie.Need-mul-count-names-in-run Inv-loop μ-loop
-mul-count-names-in-run c = let inside : 512 * c .before .find-block .result + 512 ≤ length (c .before .before .before .before .before .before .args .blocks .now) = search block-inside in omega arith
-
 count-names-in-run-requires : tie.Need-count-names-in-run-requires Inv-loop μ-loop
-count-names-in-run-requires c κs = let inside : 512 * c .before .find-block .result + 512 ≤ length (c .before .before .before .before .before .before .args .blocks .now) = search block-inside in (omega arith, omega arith)
+count-names-in-run-requires c κs = let inside : c .before .place-start .result + 512 ≤ length (c .before .before .before .before .before .before .args .blocks .now) = search block-inside in (omega arith, omega arith)
 
 add-names : tie.Need-add-names Inv-loop μ-loop
 add-names c = let small : c .count-names-in-run .result ≤ 32 = search run-small in omega arith
@@ -60,10 +57,9 @@ count-names-spec =
     μ-loop
     loop-holds
     mul-loop
-    cast-find-block
-    find-block-requires
+    cast-place-start
+    place-start-requires
     run-size-requires
-    mul-count-names-in-run
     count-names-in-run-requires
     add-names
     add-k

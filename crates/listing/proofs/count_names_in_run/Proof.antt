@@ -18,14 +18,14 @@ abbrev μ-loop : tie.MeasureT-loop
 loop-holds : tie.Need-loop-holds Inv-loop μ-loop
 loop-holds c = (search needs, search needs, search run-count-start)
 
-mul-is-blank : tie.Need-mul-is-blank Inv-loop μ-loop
-mul-is-blank c = search needs
+mul-zeros-at : tie.Need-mul-zeros-at Inv-loop μ-loop
+mul-zeros-at c = search needs
 
-add-is-blank : tie.Need-add-is-blank Inv-loop μ-loop
-add-is-blank c = search needs
+add-zeros-at : tie.Need-add-zeros-at Inv-loop μ-loop
+add-zeros-at c = search needs
 
-is-blank-requires : tie.Need-is-blank-requires Inv-loop μ-loop
-is-blank-requires c κs = search needs
+zeros-at-requires : tie.Need-zeros-at-requires Inv-loop μ-loop
+zeros-at-requires c κs = search needs
 
 add-names : tie.Need-add-names Inv-loop μ-loop
 add-names c = search needs
@@ -42,7 +42,7 @@ loop-again c =
     let so-far = read .before .before .loop .inv .2 in (
       search needs,
       ⊎-elim (λ w. omega arith) (λ w. omega arith) (c .if1 .came),
-      ⊎-elim (λ w. run-counted _ _ _ _ so-far _ (read .is-blank .ensures) _ (w .0 .taken) (w .1)) (λ w. run-skipped _ _ _ _ so-far _ (read .is-blank .ensures) _ (w .0 .left) (w .1)) (c .if1 .came),
+      ⊎-elim (λ w. run-counted _ _ _ _ so-far _ (read .zeros-at .ensures) _ (w .0 .taken) (w .1)) (λ w. run-skipped _ _ _ _ so-far _ (read .zeros-at .ensures) _ (w .0 .left) (w .1)) (c .if1 .came),
     )
 
 returns : tie.Need-returns Inv-loop μ-loop
@@ -55,9 +55,9 @@ count-names-in-run-spec =
     Inv-loop
     μ-loop
     loop-holds
-    mul-is-blank
-    add-is-blank
-    is-blank-requires
+    mul-zeros-at
+    add-zeros-at
+    zeros-at-requires
     add-names
     add-j
     loop-less

@@ -6,8 +6,8 @@ use Rattle.listing.specs.RunLaws.{none-ends, none-laid, one-room, one-en
 use Rattle.listing.proofs.lay_name.Statement.{statement}
 use Rattle.listing.proofs.lay_name.Tie as tie
 
-is-blank-requires : tie.Need-is-blank-requires
-is-blank-requires c κs = search needs
+zeros-at-requires : tie.Need-zeros-at-requires
+zeros-at-requires c κs = search needs
 
 returns : tie.Need-returns
 returns c = (search none-ends, search none-laid)
@@ -31,7 +31,7 @@ pub lay-name-spec : {M : Type 1} → statement M
 lay-name-spec =
     tie.close
     (tie.spec
-    is-blank-requires
+    zeros-at-requires
     returns
     add-copy-run
     copy-run-requires

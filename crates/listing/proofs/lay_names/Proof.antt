@@ -5,7 +5,7 @@ use native.Mathlib.Omega.{arith}
 use borrow.Author.Needs.{needs}
 use lib.ListN.{length}
 use lib.Seq.{sets}
-use Rattle.directories.specs.FindLaws.{block-inside}
+use Rattle.directories.specs.FindLaws.{run-held, block-inside}
 use Rattle.listing.specs.Names.{placeNames}
 use Rattle.listing.specs.RunLaws.{passed, places-end-start, places-laid-start, places-room, places-end-next, places-laid-next, places-laid-end}
 use Rattle.listing.proofs.lay_names.Statement.{statement}
@@ -26,20 +26,17 @@ loop-holds c = (search needs, refl, search places-end-start, search places-laid-
 mul-loop : tie.Need-mul-loop Inv-loop μ-loop
 mul-loop c = search needs
 
-cast-find-block : tie.Need-cast-find-block Inv-loop μ-loop
-cast-find-block c = search needs
+cast-place-start : tie.Need-cast-place-start Inv-loop μ-loop
+cast-place-start c = search needs
 
-find-block-requires : tie.Need-find-block-requires Inv-loop μ-loop
-find-block-requires c κs = search needs
+place-start-requires : tie.Need-place-start-requires Inv-loop μ-loop
+place-start-requires c κs = run-held _ _ _ _ _ (c .before .before .before .before .before .pre .0) (search needs)
 
 run-size-requires : tie.Need-run-size-requires Inv-loop μ-loop
 run-size-requires c κs = search needs
 
-mul-lay-names-in-run : tie.Need-mul-lay-names-in-run Inv-loop μ-loop
-mul-lay-names-in-run c = let inside : 512 * c .before .find-block .result + 512 ≤ length (c .before .before .before .before .before .before .before .args .blocks .now) = search block-inside in omega arith
-
 lay-names-in-run-requires : tie.Need-lay-names-in-run-requires Inv-loop μ-loop
-lay-names-in-run-requires c κs = let inside : 512 * c .before .before .find-block .result + 512 ≤ length (c .before .before .before .before .before .before .before .before .args .blocks .now) = search block-inside in ((omega arith, omega arith), search places-room)
+lay-names-in-run-requires c κs = let inside : c .before .before .place-start .result + 512 ≤ length (c .before .before .before .before .before .before .before .before .args .blocks .now) = search block-inside in ((omega arith, omega arith), search places-room)
 
 add-k : tie.Need-add-k Inv-loop μ-loop
 add-k c = search needs
@@ -64,10 +61,9 @@ lay-names-spec =
     μ-loop
     loop-holds
     mul-loop
-    cast-find-block
-    find-block-requires
+    cast-place-start
+    place-start-requires
     run-size-requires
-    mul-lay-names-in-run
     lay-names-in-run-requires
     add-k
     loop-less

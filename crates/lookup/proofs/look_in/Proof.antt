@@ -3,7 +3,7 @@ use mathlib.Core.Path.{sym, _∙_}
 use native.Mathlib.Omega.{arith}
 use borrow.Author.Needs.{needs}
 use borrow.Author.Tests.{not-true, not-false}
-use Rattle.lookup.specs.LookLaws.{not-there, lies-here, found-within, none-there, place-in, one-there}
+use Rattle.lookup.specs.LookLaws.{not-there, lies-here, found-within, none-there, entry-lies, one-there}
 use Rattle.lookup.proofs.look_in.Statement.{statement}
 use Rattle.lookup.proofs.look_in.Tie as tie
 
@@ -33,7 +33,7 @@ entry-file-requires c κs =
     let pre = counted .before .before .before .before .before .before .before .pre in
     let is = sym (counted .before .before .is-directory .ensures) ∙ not-false _ (counted .before .if1 .left) in
     let most = found-within _ _ _ _ (pre .0) is _ (counted .record-count .ensures) _ _ (c .before .find-named .ensures) in
-    place-in _ _ _ _ (pre .0) is _ (counted .record-count .ensures) _ (omega (arith, c .if2 .left))
+    entry-lies _ _ _ _ (pre .0) is _ (counted .record-count .ensures) _ (omega (arith, c .if2 .left))
 
 returns-3 : tie.Need-returns-3
 returns-3 c =

@@ -7,7 +7,6 @@ use Rattle.records.specs.Numbers.{twoBytes}
 use Rattle.meaning.specs.Name.{entry, written}
 use Rattle.names.specs.RecordNames.{padded, laid-written}
 use borrow.Author.Needs.{needs}
-use borrow.Author.Needs.{needs}
 use Rattle.names.proofs.write_record.Statement.{statement}
 use Rattle.names.proofs.write_record.Tie as tie
 
@@ -15,8 +14,8 @@ in-parts : (table table₁ table₂ s : List ℕ) (at f : ℕ) → table₁ ≡ 
     table₂ ≡ sets table at (written (entry f s))
 in-parts table table₁ table₂ s at f e h = rw (h, e) (laid-written table s at f)
 
-put-number-requires : tie.Need-put-number-requires
-put-number-requires c κs = search needs
+put-two-requires : tie.Need-put-two-requires
+put-two-requires c κs = search needs
 
 add-put-name : tie.Need-add-put-name
 add-put-name c = search needs
@@ -32,4 +31,4 @@ returns c = search in-parts
 
 pub write-record-spec : {M : Type 1} → statement M
 write-record-spec =
-    tie.close (tie.spec put-number-requires add-put-name put-name-requires same-length returns)
+    tie.close (tie.spec put-two-requires add-put-name put-name-requires same-length returns)

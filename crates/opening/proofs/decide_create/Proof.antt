@@ -9,7 +9,10 @@ use borrow.Author.Needs.{needs}
 use Rattle.meaning.specs.Store.{isDirectory}
 use Rattle.meaning.specs.Tables.{Tables, tables, channelCount}
 use Rattle.meaning.specs.declared.Report.the-variants.{IsDirectory, NoFreeCids}
-use Rattle.tables.specs.Searches.{channelWith}
+use Rattle.meaning.specs.declared.ChannelNo.{ChannelNo}
+use Rattle.tables.specs.declared.FoundChannel.{FoundChannel}
+use Rattle.tables.specs.declared.FoundChannel.the-variants as F
+use Rattle.tables.specs.Searches.{channelWith, channelFound}
 use Rattle.layout.specs.Layout.{sound-layout}
 use Rattle.soundness.specs.Seen.{filesStore}
 use Rattle.lookup.specs.Filed.{filed}
@@ -20,7 +23,6 @@ use Rattle.naming.specs.declared.Judged.{Judged}
 use Rattle.naming.specs.declared.Judged.the-variants.{Syllables}
 use Rattle.naming.specs.declared.Located.{Located}
 use Rattle.opening.specs.Create.{NewName, Created}
-use Rattle.placing.specs.Free.{channel-within}
 use Rattle.opening.specs.CreateCases.{create-refusal, old-directory, old-no-channel, old-emptied}
 use Rattle.opening.specs.declared.Creating.the-variants.{Old, No}
 use Rattle.opening.proofs.decide_create.Statement.{statement}
@@ -34,6 +36,9 @@ module _ (b br fr cr bytes : List ℕ) (h : Judged) (on : OnName (tables b br fr
   at : At t bytes k x
   at = located-at b br fr cr bytes h on k e x l
 
+  few-channels : channelCount cr ≤ 4294967296
+  few-channels = omega (arith, sound-layout t (at .ok) .lengths .few-channels)
+
   new-name : x .file .0 ≡ 0 → NewName b br fr cr bytes x
   new-name none = record { k = k; spelled = spelled t bytes h on k e; located = l; none = none }
 
@@ -41,15 +46,12 @@ module _ (b br fr cr bytes : List ℕ) (h : Judged) (on : OnName (tables b br fr
     directory-so : v ≡ true → Created t bytes (No IsDirectory)
     directory-so = old-directory t bytes k x at some v tells
 
-    module _ (isnt : v ≡ false) (c : ℕ) (found : c ≡ channelWith cr 0) where
-      small : c ≤ 16
-      small = omega (arith, channel-within t c found, sound-layout t (at .ok) .lengths .few-channels)
+    module _ (isnt : v ≡ false) (y : FoundChannel) (found : y ≡ channelFound (channelCount cr) (channelWith cr 0)) where
+      no-channel-so : y ≡ F.Nowhere → Created t bytes (No NoFreeCids)
+      no-channel-so = old-no-channel t bytes k x at some v tells isnt y found
 
-      no-channel-so : c ≡ channelCount cr → Created t bytes (No NoFreeCids)
-      no-channel-so = old-no-channel t bytes k x at some v tells isnt c found
-
-      emptied-so : c ≢ channelCount cr → Created t bytes (Old (record { 0 = c }) (x .file))
-      emptied-so = old-emptied t bytes k x at some v tells isnt c found
+      emptied-so : (c : ChannelNo) → y ≡ F.At c → Created t bytes (Old c (x .file))
+      emptied-so = old-emptied t bytes k x at some v tells isnt y found
 
 judge-name-requires : tie.Need-judge-name-requires
 judge-name-requires c κs = search needs
@@ -76,13 +78,16 @@ returns-2 : tie.Need-returns-2
 returns-2 c = search directory-so
 
 find-channel-requires : tie.Need-find-channel-requires
-find-channel-requires c κs = search needs
+find-channel-requires c κs = search few-channels
+
+enum-known-c : tie.Need-enum-known-c
+enum-known-c c = search needs
+
+enum-told : tie.Need-enum-told
+enum-told c = search needs
 
 returns-3 : tie.Need-returns-3
 returns-3 c = search no-channel-so
-
-cast-t20 : tie.Need-cast-t20
-cast-t20 c = let few : c .before .find-channel .result ≤ 16 = search small in omega arith
 
 returns-4 : tie.Need-returns-4
 returns-4 c = search create-refusal
@@ -103,7 +108,8 @@ decide-create-spec =
     is-directory-requires
     returns-2
     find-channel-requires
+    enum-known-c
+    enum-told
     returns-3
-    cast-t20
     returns-4
     returns-5)

@@ -1,7 +1,6 @@
 -- Each return is a case of what create gives on a new name, by the tests that led there.
-use Prim.Native.Nat.{ℕ, _+_, _-_, _*_, _≤_, max}
+use Prim.Native.Nat.{ℕ, _+_, _*_, _≤_, _<_, max}
 use mathlib.Core.Path.{_≡_, sym, subst, _∙_}
-use mathlib.Core.Logic.{_≢_}
 use mathlib.Core.List.{List, []}
 use mathlib.Core.Bool.{Bool, true, false, not}
 use native.Mathlib.Omega.{arith}
@@ -12,7 +11,13 @@ use Rattle.meaning.specs.Tables.{Tables, tables, storeOf, fileCount, channelCou
 use Rattle.meaning.specs.declared.Report.{Report}
 use Rattle.meaning.specs.declared.Report.the-variants.{NoSuchName, NoFreeCids, NoFreeFids}
 use Rattle.meaning.specs.NameCalls.{recordFor}
-use Rattle.tables.specs.Searches.{channelWith, fileWith, freeBlockCount}
+use Rattle.meaning.specs.declared.FileNo.{FileNo}
+use Rattle.meaning.specs.declared.ChannelNo.{ChannelNo}
+use Rattle.tables.specs.declared.FoundFile.{FoundFile}
+use Rattle.tables.specs.declared.FoundFile.the-variants as N
+use Rattle.tables.specs.declared.FoundChannel.{FoundChannel}
+use Rattle.tables.specs.declared.FoundChannel.the-variants as C
+use Rattle.tables.specs.Searches.{channelWith, channelFound, fileWith, fileFound, freeBlockCount}
 use Rattle.layout.specs.Layout.{sound-layout}
 use Rattle.soundness.specs.Seen.{filesStore, isDirectory-seen}
 use Rattle.lookup.specs.Filed.{filed, shelves}
@@ -23,7 +28,6 @@ use Rattle.naming.specs.declared.Located.{Located}
 use Rattle.recording.specs.Fit.{FitsIn}
 use Rattle.recording.specs.declared.Fit.{Fit}
 use Rattle.recording.specs.declared.Fit.the-variants as F
-use Rattle.placing.specs.Free.{channel-within, file-within}
 use Rattle.placing.specs.NewName.{few-records, deep}
 use Rattle.opening.specs.Create.{NewName, Created}
 use Rattle.opening.specs.CreateCases.{new-nowhere, new-no-channel, new-no-file, new-refused, new-made, new-here}
@@ -38,11 +42,11 @@ module _ (b br fr cr bytes : List ℕ) (x : Located) (new : NewName b br fr cr b
   at : At t bytes (new .k) x
   at = stands-at b br fr cr bytes (new .k) (new .spelled) x (new .located)
 
-  few-channels : channelCount cr ≤ 16
-  few-channels = sound-layout t (at .ok) .lengths .few-channels
+  few-channels : channelCount cr ≤ 4294967296
+  few-channels = omega (arith, sound-layout t (at .ok) .lengths .few-channels)
 
-  few-files : fileCount fr ≤ 64
-  few-files = sound-layout t (at .ok) .lengths .few-files
+  few-files : fileCount fr < 65536
+  few-files = omega (arith, sound-layout t (at .ok) .lengths .few-files)
 
   module _ (v : Bool) (tells : v ≡ isDirectory (filesStore fr) (x .parent .0)) where
     nowhere-so : not v ≡ true → Created t bytes (No NoSuchName)
@@ -52,49 +56,42 @@ module _ (b br fr cr bytes : List ℕ) (x : Located) (new : NewName b br fr cr b
       is : isDirectory (filesStore fr) (x .parent .0) ≡ true
       is = sym tells ∙ not-false v n
 
-      module _ (c : ℕ) (found : c ≡ channelWith cr 0) where
-        small-channel : c ≤ 16
-        small-channel = omega (arith, channel-within t c found, few-channels)
+      in-place : InPlace b br fr bytes x
+      in-place =
+          record {
+            shelf = shelves b br fr cr (at .ok);
+            k = new .k;
+            deep = deep t bytes (new .k) x at (new .none) (new-here t bytes (new .k) x at (new .none) is);
+            counted = new .spelled .counted;
+            located = new .located;
+            is-directory = isDirectory-seen (tables b br fr []) (x .parent .0) ∙ is;
+          }
 
-        no-channel-so : c ≡ channelCount cr → Created t bytes (No NoFreeCids)
-        no-channel-so e = new-no-channel t bytes (new .k) x at (new .none) is c found e
+      place : (i : ℕ) → Recorded (filed b br fr) bytes i → i ≡ recordFor (storeOf t) (at .name)
+      place i recorded = found-record b br fr cr bytes (new .k) x at i recorded
 
-        module _ (some-channel : c ≢ channelCount cr) (r : ℕ) (free : r ≡ fileWith fr 0) where
-          small-file : r ≤ 64
-          small-file = omega (arith, file-within t r free, few-files)
+      few : (i : ℕ) → Recorded (filed b br fr) bytes i → (fileLength fr (x .parent .0) ≤ 32768) × (i ≤ 2048)
+      few i recorded = few-records t bytes (new .k) x at (new .none) (new-here t bytes (new .k) x at (new .none) is) i (place i recorded)
 
-          no-file-so : r ≡ fileCount fr → Created t bytes (No NoFreeFids)
-          no-file-so e = new-no-file t bytes (new .k) x at (new .none) is c found some-channel r free e
+      module _ (y : FoundChannel) (found : y ≡ channelFound (channelCount cr) (channelWith cr 0)) where
+        no-channel-so : y ≡ C.Nowhere → Created t bytes (No NoFreeCids)
+        no-channel-so e = new-no-channel t bytes (new .k) x at (new .none) is y found e
 
-          module _ (some-file : r ≢ fileCount fr) where
-            in-place : InPlace b br fr bytes x
-            in-place =
-                record {
-                  shelf = shelves b br fr cr (at .ok);
-                  k = new .k;
-                  deep = deep t bytes (new .k) x at (new .none) (new-here t bytes (new .k) x at (new .none) is);
-                  counted = new .spelled .counted;
-                  located = new .located;
-                  is-directory = isDirectory-seen (tables b br fr []) (x .parent .0) ∙ is;
-                }
+        module _ (c : ChannelNo) (some-channel : y ≡ C.At c) (z : FoundFile) (free : z ≡ fileFound (fileCount fr) (fileWith fr 0)) where
+          no-file-so : z ≡ N.Nowhere → Created t bytes (No NoFreeFids)
+          no-file-so e = new-no-file t bytes (new .k) x at (new .none) is y found c some-channel z free e
 
-            module _ (i : ℕ) (recorded : Recorded (filed b br fr) bytes i) where
-              place : i ≡ recordFor (storeOf t) (at .name)
-              place = found-record b br fr cr bytes (new .k) x at i recorded
+          module _ (f : FileNo) (some-file : z ≡ N.At f) (i : ℕ) (recorded : Recorded (filed b br fr) bytes i)
+              (fit : Fit) (fits : FitsIn (freeBlockCount br) (fileLength fr (x .parent .0)) (max (fileLength fr (x .parent .0)) (16 * i + 16)) fit) where
+            refused-so : (why : Report) → fit ≡ F.No why → Created t bytes (No why)
+            refused-so why e =
+                new-refused t bytes (new .k) x at (new .none) is y found c some-channel z free f some-file i (place i recorded) why
+                (subst (FitsIn (freeBlockCount br) (fileLength fr (x .parent .0)) (max (fileLength fr (x .parent .0)) (16 * i + 16))) e fits)
 
-              few : (fileLength fr (x .parent .0) ≤ 32768) × (i ≤ 2048)
-              few = few-records t bytes (new .k) x at (new .none) (new-here t bytes (new .k) x at (new .none) is) i place
-
-              module _ (fit : Fit) (fits : FitsIn (freeBlockCount br) (fileLength fr (x .parent .0)) (max (fileLength fr (x .parent .0)) (16 * i + 16)) fit) where
-                refused-so : (why : Report) → fit ≡ F.No why → Created t bytes (No why)
-                refused-so why e =
-                    new-refused t bytes (new .k) x at (new .none) is c found some-channel r free some-file i place why
-                    (subst (FitsIn (freeBlockCount br) (fileLength fr (x .parent .0)) (max (fileLength fr (x .parent .0)) (16 * i + 16))) e fits)
-
-                made-so : fit ≡ F.Fits → Created t bytes (New (record { 0 = c }) (record { 0 = r + 1 }) (x .parent) i)
-                made-so e =
-                    new-made t bytes (new .k) x at (new .none) is c found some-channel r free some-file i place
-                    (subst (FitsIn (freeBlockCount br) (fileLength fr (x .parent .0)) (max (fileLength fr (x .parent .0)) (16 * i + 16))) e fits)
+            made-so : fit ≡ F.Fits → Created t bytes (New c f (x .parent) i)
+            made-so e =
+                new-made t bytes (new .k) x at (new .none) is y found c some-channel z free f some-file i (place i recorded)
+                (subst (FitsIn (freeBlockCount br) (fileLength fr (x .parent .0)) (max (fileLength fr (x .parent .0)) (16 * i + 16))) e fits)
 
 is-directory-requires : tie.Need-is-directory-requires
 is-directory-requires c κs = search needs
@@ -103,48 +100,44 @@ returns : tie.Need-returns
 returns c = search nowhere-so
 
 find-channel-requires : tie.Need-find-channel-requires
-find-channel-requires c κs = search needs
+find-channel-requires c κs = search few-channels
+
+enum-known-c : tie.Need-enum-known-c
+enum-known-c c = search needs
+
+enum-told : tie.Need-enum-told
+enum-told c = search needs
 
 returns-2 : tie.Need-returns-2
 returns-2 c = search no-channel-so
 
 find-file-requires : tie.Need-find-file-requires
-find-file-requires c κs = search needs
+find-file-requires c κs = search few-files
+
+enum-known-new : tie.Need-enum-known-new
+enum-known-new c = search needs
+
+enum-told-2 : tie.Need-enum-told-2
+enum-told-2 c = search needs
 
 returns-3 : tie.Need-returns-3
 returns-3 c = search no-file-so
 
 record-for-requires : tie.Need-record-for-requires
-record-for-requires c κs =
-    let second = c .before .before in
-    let first = second .before .before in
-    in-place _ _ _ _ _ _ (first .before .before .before .before .before .before .before .before .pre) _ (first .before .is-directory .ensures) (first .if1 .left) _ (second .before .find-channel .ensures) (second .if2 .left) _
-    (c .before .find-file .ensures) (c .if3 .left)
+record-for-requires c κs = search in-place
 
 record-fits-requires : tie.Need-record-fits-requires
 record-fits-requires c κs =
-    let third = c .before in
-    let second = third .before .before in
-    let first = second .before .before in (
-      search is,
-      few _ _ _ _ _ _ (first .before .before .before .before .before .before .before .before .pre) _ (first .before .is-directory .ensures) (first .if1 .left) _ (second .before .find-channel .ensures) (second .if2 .left) _
-          (third .before .find-file .ensures) (third .if3 .left) _ (c .record-for .ensures),
-    )
+    let tested = c .before .before .before .before .before .before .before .before .before in
+    let asked = tested .before in
+    let start = asked .before .before .before .before .before .before .before in
+    (search is, few _ _ _ _ _ _ (start .pre) _ (asked .is-directory .ensures) (tested .if1 .left) _ (c .record-for .ensures))
 
 enum-known-fit : tie.Need-enum-known-fit
 enum-known-fit c = search needs
 
-enum-told : tie.Need-enum-told
-enum-told c = search needs
-
-cast-t22 : tie.Need-cast-t22
-cast-t22 c = let few-so : c .before .before .before .before .before .before .before .find-channel .result ≤ 16 = search small-channel in omega arith
-
-cast-t24 : tie.Need-cast-t24
-cast-t24 c = let few-so : c .before .before .before .before .before .find-file .result ≤ 64 = search small-file in omega arith
-
-add-t25 : tie.Need-add-t25
-add-t25 c = let few-so : c .before .before .before .before .before .find-file .result ≤ 64 = search small-file in omega arith
+enum-told-3 : tie.Need-enum-told-3
+enum-told-3 c = search needs
 
 returns-4 : tie.Need-returns-4
 returns-4 c = search refused-so
@@ -159,15 +152,16 @@ decide-new-spec =
     is-directory-requires
     returns
     find-channel-requires
+    enum-known-c
+    enum-told
     returns-2
     find-file-requires
+    enum-known-new
+    enum-told-2
     returns-3
     record-for-requires
     record-fits-requires
     enum-known-fit
-    enum-told
-    cast-t22
-    cast-t24
-    add-t25
+    enum-told-3
     returns-4
     returns-5)

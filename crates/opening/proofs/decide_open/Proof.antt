@@ -1,12 +1,10 @@
 -- Each return is a case of what open gives on a well-written name, by the tests that led there.
-use Prim.Native.Nat.{ℕ, _-_, _≤_}
-use mathlib.Core.Path.{_≡_, refl, sym, _∙_}
+use Prim.Native.Nat.{ℕ, _≤_}
+use mathlib.Core.Path.{_≡_, refl, _∙_}
 use mathlib.Core.Logic.{_≢_}
 use mathlib.Core.List.{List, [], _∷_}
 use native.Mathlib.Omega.{arith}
 use borrow.Author.Needs.{needs}
-use Rattle.records.specs.RowLaws.{lowest-within}
-use borrow.Author.Tests.{lt-ltb, le-ltb}
 use Rattle.meaning.specs.Store.{channel, channelTo, named, freeChannel}
 use Rattle.meaning.specs.Tables.{Tables, tables, storeOf, channelCount}
 use Rattle.meaning.specs.NameCalls.{open′}
@@ -14,8 +12,11 @@ use Rattle.meaning.specs.Result.{Result, done, unless, missing, allOpen}
 use Rattle.meaning.specs.Run.{Call, resultOf, meaning, accepts}
 use Rattle.meaning.specs.declared.Report.{Report}
 use Rattle.meaning.specs.declared.Report.the-variants.{NoSuchName, NoFreeCids}
-use Rattle.tables.specs.Searches.{channelWith, isTo}
-use Rattle.tables.specs.StoreLaws.{free-channel}
+use Rattle.meaning.specs.declared.ChannelNo.{ChannelNo}
+use Rattle.tables.specs.declared.FoundChannel.{FoundChannel}
+use Rattle.tables.specs.declared.FoundChannel.the-variants as F
+use Rattle.tables.specs.Searches.{channelWith, channelFound}
+use Rattle.placing.specs.Free.{no-channel-free, channel-free, channel-below, some-channel-free}
 use Rattle.naming.specs.Judged.{OnName, onNameOf, refuses}
 use Rattle.layout.specs.Layout.{sound-layout}
 use Rattle.lookup.specs.Filed.{filed}
@@ -35,11 +36,6 @@ rest t name =
     let c = freeChannel s in
     unless (missing s name) NoSuchName (unless (allOpen s) NoFreeCids (done (c ∷ []) [] (channel c (channelTo (named s name) 0) ∷ [])))
 
--- a channel that is found is one of the table's
-found-most : (records : List ℕ) (c : ℕ) → c ≡ channelWith records 0 → c ≤ channelCount records
-unfolding channelWith
-found-most records c e = omega (arith, e, lowest-within (channelCount records) (isTo records 0))
-
 on-name : (t : Tables) (bytes : List ℕ) → onNameOf t bytes (rest t) ≡ resultOf (Call.Open bytes) t
 unfolding resultOf meaning accepts open′ onNameOf
 on-name t bytes = refl
@@ -55,19 +51,18 @@ module _ (t : Tables) (bytes : List ℕ) (k : ℕ) (x : Located) (a : At t bytes
   unfolding unless
   no-name e = record { means = rw (is-missing t bytes k x a e) at given; inside = tt }
 
-  module _ (some : x .file .0 ≢ 0) (c : ℕ) (found : c ≡ channelWith (t .channelRecords) 0) where
-    is-free : freeChannel (storeOf t) ≡ c
-    is-free = free-channel t ∙ sym found
+  module _ (some : x .file .0 ≢ 0) (y : FoundChannel) (found : y ≡ channelFound (channelCount (t .channelRecords)) (channelWith (t .channelRecords) 0)) where
+    no-channel : y ≡ F.Nowhere → Decided t bytes (No NoFreeCids)
+    unfolding unless
+    no-channel e = record { means = rw (not-missing t bytes k x a some, no-channel-free t y found e) at given; inside = tt }
 
-    no-channel : c ≡ channelCount (t .channelRecords) → Decided t bytes (No NoFreeCids)
-    unfolding unless allOpen storeOf
-    no-channel e = record { means = rw (not-missing t bytes k x a some, is-free, le-ltb c (channelCount (t .channelRecords)) (omega arith)) at given; inside = tt }
-
-    opens : c ≢ channelCount (t .channelRecords) → Decided t bytes (Of (record { 0 = c }) (x .file))
-    unfolding unless allOpen storeOf
-    opens d =
-        let l = found-most (t .channelRecords) c found in
-        record { means = rw (not-missing t bytes k x a some, is-free, lt-ltb c (channelCount (t .channelRecords)) (omega arith), ← a .stands) at given; inside = omega arith }
+    opens : (c : ChannelNo) → y ≡ F.At c → Decided t bytes (Of c (x .file))
+    unfolding unless
+    opens c e =
+        record {
+          means = rw (not-missing t bytes k x a some, some-channel-free t y found c e, channel-free t y found c e, ← a .stands) at given;
+          inside = channel-below t y found c e;
+        }
 
 -- the same, over what the code has at hand
 module _ (b br fr cr bytes : List ℕ) (h : Judged) (on : OnName (tables b br fr cr) bytes h) (k : ℕ) (e : h ≡ Syllables k) (x : Located) (l : Locates (filed b br fr) bytes x) where
@@ -77,15 +72,15 @@ module _ (b br fr cr bytes : List ℕ) (h : Judged) (on : OnName (tables b br fr
   missing-so : x .file .0 ≡ 0 → Decided (tables b br fr cr) bytes (No NoSuchName)
   missing-so = no-name (tables b br fr cr) bytes k x at
 
-  module _ (some : x .file .0 ≢ 0) (c : ℕ) (found : c ≡ channelWith cr 0) where
-    all-open : c ≡ channelCount cr → Decided (tables b br fr cr) bytes (No NoFreeCids)
-    all-open = no-channel (tables b br fr cr) bytes k x at some c found
+  few-channels : channelCount cr ≤ 4294967296
+  few-channels = omega (arith, sound-layout (tables b br fr cr) (at .ok) .lengths .few-channels)
 
-    opened : c ≢ channelCount cr → Decided (tables b br fr cr) bytes (Of (record { 0 = c }) (x .file))
-    opened = opens (tables b br fr cr) bytes k x at some c found
+  module _ (some : x .file .0 ≢ 0) (y : FoundChannel) (found : y ≡ channelFound (channelCount cr) (channelWith cr 0)) where
+    all-open : y ≡ F.Nowhere → Decided (tables b br fr cr) bytes (No NoFreeCids)
+    all-open = no-channel (tables b br fr cr) bytes k x at some y found
 
-    small : c ≤ 16
-    small = omega (arith, found-most cr c found, sound-layout (tables b br fr cr) (at .ok) .lengths .few-channels)
+    opened : (c : ChannelNo) → y ≡ F.At c → Decided (tables b br fr cr) bytes (Of c (x .file))
+    opened = opens (tables b br fr cr) bytes k x at some y found
 
 judge-name-requires : tie.Need-judge-name-requires
 judge-name-requires c κs = search needs
@@ -103,13 +98,16 @@ returns : tie.Need-returns
 returns c = search missing-so
 
 find-channel-requires : tie.Need-find-channel-requires
-find-channel-requires c κs = search needs
+find-channel-requires c κs = search few-channels
+
+enum-known-c : tie.Need-enum-known-c
+enum-known-c c = search needs
+
+enum-told : tie.Need-enum-told
+enum-told c = search needs
 
 returns-2 : tie.Need-returns-2
 returns-2 c = search all-open
-
-cast-t19 : tie.Need-cast-t19
-cast-t19 c = let few : c .before .find-channel .result ≤ 16 = search small in omega arith
 
 returns-3 : tie.Need-returns-3
 returns-3 c = search refusal
@@ -127,7 +125,8 @@ decide-open-spec =
     locate-requires
     returns
     find-channel-requires
+    enum-known-c
+    enum-told
     returns-2
-    cast-t19
     returns-3
     returns-4)

@@ -6,7 +6,7 @@ use mathlib.Core.Bool.{true}
 use native.Mathlib.Omega.{arith}
 use lib.ListN.{getD}
 use Rattle.soundness.specs.NewNames.{other, blank-new, compared-new, other-name, same-old}
-use Rattle.soundness.specs.Slots.{Within, slot-small, slot-fits}
+use Rattle.soundness.specs.Slots.{Within, slot-few, slot-fits}
 use Rattle.soundness.specs.Chains.{Padded, Links}
 use Rattle.soundness.specs.ChainLaws.{slot-filled, Looked, looked-start, looked-next, looked-all}
 use borrow.Author.Needs.{needs}
@@ -39,14 +39,11 @@ Inv-loop blocks starts links i last at next₀ next = Looked blocks starts i nex
 abbrev μ-loop : tie.MeasureT-loop
 μ-loop blocks starts links i last at next₀ next = next
 
-slot-at-requires : tie.Need-slot-at-requires Inv-loop μ-loop
-slot-at-requires c κs = slot-small _ _ _ (c .before .pre .0) _ (search needs)
+record-start-requires : tie.Need-record-start-requires Inv-loop μ-loop
+record-start-requires c κs = slot-few _ _ _ (c .before .pre .0) _ (search needs)
 
-mul-at : tie.Need-mul-at Inv-loop μ-loop
-mul-at c = let h = slot-fits _ _ _ (c .before .before .pre .0) _ (search needs) _ (c .slot-at .ensures) in omega arith
-
-is-blank-requires : tie.Need-is-blank-requires Inv-loop μ-loop
-is-blank-requires c κs = slot-fits _ _ _ (c .before .before .pre .0) _ (search needs) _ (c .slot-at .ensures)
+zeros-at-requires : tie.Need-zeros-at-requires Inv-loop μ-loop
+zeros-at-requires c κs = slot-fits _ _ _ (c .before .before .pre .0) _ (search needs) _ (c .record-start .ensures)
 
 returns : tie.Need-returns Inv-loop μ-loop
 returns c = search blank-new
@@ -57,16 +54,10 @@ loop-holds c = let p = c .before .before .before .before .pre in looked-start _ 
 sub-k : tie.Need-sub-k Inv-loop μ-loop
 sub-k c = search needs
 
-slot-at-requires-2 : tie.Need-slot-at-requires-2 Inv-loop μ-loop
-slot-at-requires-2 c κs =
+record-start-requires-2 : tie.Need-record-start-requires-2 Inv-loop μ-loop
+record-start-requires-2 c κs =
     let l = c .before in
-    slot-small _ _ _ (l .before .before .before .before .before .pre .0) _ (inside _ _ _ _ (l .loop .inv) (search needs))
-
-mul-same-name : tie.Need-mul-same-name Inv-loop μ-loop
-mul-same-name c =
-    let l = c .before .before in
-    let h = slot-fits _ _ _ (l .before .before .before .before .before .pre .0) _ (inside _ _ _ _ (l .loop .inv) (search needs)) _ (c .slot-at2 .ensures) in
-    omega arith
+    slot-few _ _ _ (l .before .before .before .before .before .pre .0) _ (inside _ _ _ _ (l .loop .inv) (search needs))
 
 same-name-requires : tie.Need-same-name-requires Inv-loop μ-loop
 same-name-requires c κs =
@@ -74,8 +65,8 @@ same-name-requires c κs =
     let s = l .before .before .before in
     let p = s .before .before .pre in
     let h = inside _ _ _ _ (l .loop .inv) (search needs) in (
-      (slot-fits _ _ _ (p .0) _ h _ (c .slot-at2 .ensures), slot-fits _ _ _ (p .0) _ (search needs) _ (s .slot-at .ensures)),
-      (slot-filled _ _ _ (p .1 .0) _ h _ (c .slot-at2 .ensures), slot-filled _ _ _ (p .1 .0) _ (search needs) _ (s .slot-at .ensures)),
+      (slot-fits _ _ _ (p .0) _ h _ (c .record-start2 .ensures), slot-fits _ _ _ (p .0) _ (search needs) _ (s .record-start .ensures)),
+      (slot-filled _ _ _ (p .1 .0) _ h _ (c .record-start2 .ensures), slot-filled _ _ _ (p .1 .0) _ (search needs) _ (s .record-start .ensures)),
     )
 
 returns-2 : tie.Need-returns-2 Inv-loop μ-loop
@@ -83,8 +74,8 @@ returns-2 c =
     let d = c .before in
     let l = d .before .before .before in
     let e = l .before in
-    same-old _ _ _ _ (e .before .before .slot-at .ensures) _ (e .before .is-blank .ensures) (e .if1 .left)
-    _ _ (d .before .slot-at2 .ensures) _ (d .same-name .ensures) (before _ _ _ _ (l .loop .inv) (search needs)) (c .if2 .taken)
+    same-old _ _ _ _ (e .before .before .record-start .ensures) _ (e .before .zeros-at .ensures) (e .if1 .left)
+    _ _ (d .before .record-start2 .ensures) _ (d .same-name .ensures) (before _ _ _ _ (l .loop .inv) (search needs)) (c .if2 .taken)
 
 mul-next : tie.Need-mul-next Inv-loop μ-loop
 mul-next c = search needs
@@ -113,15 +104,15 @@ loop-again c =
     let e = l .before in
     let p = e .before .before .before .before .pre in
     next _ _ _ _ (l .loop .inv) (search needs) _ (p .1 .1 .0) (p .0) (p .1 .0)
-    (other-name _ _ _ _ (e .before .before .slot-at .ensures) _ (e .before .is-blank .ensures) (e .if1 .left)
-    _ _ (d .before .slot-at2 .ensures) _ (d .same-name .ensures) (c .before .if2 .left))
+    (other-name _ _ _ _ (e .before .before .record-start .ensures) _ (e .before .zeros-at .ensures) (e .if1 .left)
+    _ _ (d .before .record-start2 .ensures) _ (d .same-name .ensures) (c .before .if2 .left))
 
 returns-3 : tie.Need-returns-3 Inv-loop μ-loop
 returns-3 c =
     let l = c .before in
     let e = l .before in
     let p = e .before .before .before .before .pre in
-    compared-new _ _ _ _ (e .before .before .slot-at .ensures) _ (e .before .is-blank .ensures) (e .if1 .left)
+    compared-new _ _ _ _ (e .before .before .record-start .ensures) _ (e .before .zeros-at .ensures) (e .if1 .left)
     (looked-all _ _ _ (p .0) (p .1 .0) _ (search needs) (l .loop .inv))
 
 pub chain-new-spec : {M : Type 1} → statement M
@@ -130,14 +121,12 @@ chain-new-spec =
     (tie.spec
     Inv-loop
     μ-loop
-    slot-at-requires
-    mul-at
-    is-blank-requires
+    record-start-requires
+    zeros-at-requires
     returns
     loop-holds
     sub-k
-    slot-at-requires-2
-    mul-same-name
+    record-start-requires-2
     same-name-requires
     returns-2
     mul-next

@@ -30,6 +30,9 @@ abbrev μ-loop : tie.MeasureT-loop
 loop-holds : tie.Need-loop-holds Inv-loop μ-loop
 loop-holds c = (refl, search needs, search every-start)
 
+cast-t7 : tie.Need-cast-t7 Inv-loop μ-loop
+cast-t7 c = search needs
+
 channel-sound-requires : tie.Need-channel-sound-requires Inv-loop μ-loop
 channel-sound-requires c κs = search needs
 
@@ -55,6 +58,7 @@ channels-sound-spec =
     Inv-loop
     μ-loop
     loop-holds
+    cast-t7
     channel-sound-requires
     returns
     add-c

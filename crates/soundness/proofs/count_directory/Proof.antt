@@ -13,7 +13,7 @@ use Rattle.records.specs.Tests.{same-or-not}
 use Rattle.meaning.specs.Name.{entryIn, entryAt}
 use Rattle.names.specs.RecordNames.{recordFrom, entry-at}
 use Rattle.soundness.specs.Rules.{names-at, Counted, Countable}
-use Rattle.soundness.specs.Slots.{slot, slot-small, slot-fits}
+use Rattle.soundness.specs.Slots.{slot, slot-few, slot-fits}
 use borrow.Author.Needs.{needs}
 use Rattle.soundness.proofs.count_directory.Statement.{statement}
 use Rattle.soundness.proofs.count_directory.Tie as tie
@@ -22,9 +22,9 @@ module _ (blocks starts : List ℕ) (n : ℕ) (old : List ℕ) (countable : Coun
   none : Counted blocks starts 0 old old
   none = record { size = countable .size; each = λ f h. omega (arith, count-start (names-at blocks starts f)) }
 
-  module _ (i l k : ℕ) (h : i < n) (slot-is : l ≡ slot starts i) (read : k ≡ entryIn (recordFrom blocks (16 * l)) .file) (new : List ℕ) (so-far : Counted blocks starts i old new) where
+  module _ (i at k : ℕ) (h : i < n) (at-is : at ≡ 16 * slot starts i) (read : k ≡ entryIn (recordFrom blocks at) .file) (new : List ℕ) (so-far : Counted blocks starts i old new) where
     named : entryAt blocks (slot starts i) .file ≡ k
-    named = rw (← slot-is, entry-at blocks l) (sym read)
+    named = rw (entry-at blocks (slot starts i), ← at-is) (sym read)
 
     number : k < 65
     number = omega (arith, named, countable .numbers i h)
@@ -61,14 +61,11 @@ abbrev μ-loop : tie.MeasureT-loop
 loop-holds : tie.Need-loop-holds Inv-loop μ-loop
 loop-holds c = (search needs, none _ _ _ _ (c .before .pre))
 
-slot-at-requires : tie.Need-slot-at-requires Inv-loop μ-loop
-slot-at-requires c κs = slot-small _ _ _ (c .before .before .before .pre .within) _ (search needs)
-
-mul-record-file : tie.Need-mul-record-file Inv-loop μ-loop
-mul-record-file c = let h = slot-fits _ _ _ (c .before .before .before .before .pre .within) _ (search needs) _ (c .slot-at .ensures) in omega arith
+record-start-requires : tie.Need-record-start-requires Inv-loop μ-loop
+record-start-requires c κs = slot-few _ _ _ (c .before .before .before .pre .within) _ (search needs)
 
 record-file-requires : tie.Need-record-file-requires Inv-loop μ-loop
-record-file-requires c κs = slot-fits _ _ _ (c .before .before .before .before .pre .within) _ (search needs) _ (c .slot-at .ensures)
+record-file-requires c κs = slot-fits _ _ _ (c .before .before .before .before .pre .within) _ (search needs) _ (c .record-start .ensures)
 
 cast-k : tie.Need-cast-k Inv-loop μ-loop
 cast-k c = search needs
@@ -79,21 +76,21 @@ mul-counts c = search needs
 element-copy-out-counts : tie.Need-element-copy-out-counts Inv-loop μ-loop
 element-copy-out-counts c =
     let l = c .before .before .before .before in
-    number _ _ _ _ (l .before .before .pre) _ _ _ (search needs) (c .before .before .slot-at .ensures) (c .before .record-file .ensures) _ (l .loop .inv .1)
+    number _ _ _ _ (l .before .before .pre) _ _ _ (search needs) (c .before .before .record-start .ensures) (c .before .record-file .ensures) _ (l .loop .inv .1)
 
 add-counts : tie.Need-add-counts Inv-loop μ-loop
 add-counts c =
     let d = c .before in
     let l = d .before .before .before .before in
     let h : getD (l .loop .counts) (d .before .record-file .result .0) 0 ≤ 133120 =
-    low _ _ _ _ (l .before .before .pre) _ _ _ (search needs) (d .before .before .slot-at .ensures) (d .before .record-file .ensures) _ (l .loop .inv .1) in
+    low _ _ _ _ (l .before .before .pre) _ _ _ (search needs) (d .before .before .record-start .ensures) (d .before .record-file .ensures) _ (l .loop .inv .1) in
     omega arith
 
 element-write-counts : tie.Need-element-write-counts Inv-loop μ-loop
 element-write-counts c =
     let d = c .before in
     let l = d .before .before .before .before in
-    number _ _ _ _ (l .before .before .pre) _ _ _ (search needs) (d .before .before .slot-at .ensures) (d .before .record-file .ensures) _ (l .loop .inv .1)
+    number _ _ _ _ (l .before .before .pre) _ _ _ (search needs) (d .before .before .record-start .ensures) (d .before .record-file .ensures) _ (l .loop .inv .1)
 
 add-i : tie.Need-add-i Inv-loop μ-loop
 add-i c = search needs
@@ -105,7 +102,7 @@ loop-again : tie.Need-loop-again Inv-loop μ-loop
 loop-again c =
     let d = c .before in
     let l = d .before .before .before .before in
-    (search needs, one-more _ _ _ _ (l .before .before .pre) _ _ _ (search needs) (d .before .before .slot-at .ensures) (d .before .record-file .ensures) _ (l .loop .inv .1))
+    (search needs, one-more _ _ _ _ (l .before .before .pre) _ _ _ (search needs) (d .before .before .record-start .ensures) (d .before .record-file .ensures) _ (l .loop .inv .1))
 
 returns : tie.Need-returns Inv-loop μ-loop
 returns c = let l = c .before in all _ _ _ _ (l .before .before .pre) _ _ (search needs) (search needs) (l .loop .inv .1)
@@ -117,8 +114,7 @@ count-directory-spec =
     Inv-loop
     μ-loop
     loop-holds
-    slot-at-requires
-    mul-record-file
+    record-start-requires
     record-file-requires
     cast-k
     mul-counts

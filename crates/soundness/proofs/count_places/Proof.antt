@@ -21,6 +21,9 @@ abbrev μ-loop : tie.MeasureT-loop
 loop-holds : tie.Need-loop-holds Inv-loop μ-loop
 loop-holds c = (refl, search needs, places-start _)
 
+cast-t8 : tie.Need-cast-t8 Inv-loop μ-loop
+cast-t8 c = search needs
+
 count-block-requires : tie.Need-count-block-requires Inv-loop μ-loop
 count-block-requires c κs = let l = c .before .before in (l .before .before .pre, (search needs, l .loop .inv .2))
 
@@ -39,4 +42,4 @@ returns c = all _ _ _ _ (search needs) (search needs) (c .before .loop .inv .2)
 pub count-places-spec : {M : Type 1} → statement M
 count-places-spec =
     tie.close
-    (tie.spec Inv-loop μ-loop loop-holds count-block-requires add-b loop-less loop-again returns)
+    (tie.spec Inv-loop μ-loop loop-holds cast-t8 count-block-requires add-b loop-less loop-again returns)

@@ -22,26 +22,26 @@ alike true false e = sym e
 alike false true e = sym e
 alike false false e = refl
 
-module _ (r depth size : ℕ) where
+module _ (f depth size : ℕ) where
   abbrev rest : Bool
   rest = leb depth 7 && leb size longest && eqb (size % 16) 0
 
-  one-top : not (Bool·beq (eqb r 0) (eqb depth 0)) ≡ true → false ≡ directoryForm r depth size
+  one-top : not (Bool·beq (eqb f 1) (eqb depth 0)) ≡ true → false ≡ directoryForm f depth size
   unfolding directoryForm
-  one-top e = sym (ap (λ t. rest && t) (differ (eqb r 0) (eqb depth 0) e) ∙ and-false rest)
+  one-top e = sym (ap (λ t. rest && t) (differ (eqb f 1) (eqb depth 0) e) ∙ and-false rest)
 
-  too-deep : 7 < depth → false ≡ directoryForm r depth size
+  too-deep : 7 < depth → false ≡ directoryForm f depth size
   unfolding directoryForm
   too-deep h = rw (lt-leb depth 7 h)
 
-  too-long : 32768 < size → false ≡ directoryForm r depth size
+  too-long : 32768 < size → false ≡ directoryForm f depth size
   unfolding directoryForm
   too-long h = rw (lt-leb size longest h, and-false (leb depth 7))
 
-  whole : not (Bool·beq (eqb r 0) (eqb depth 0)) ≡ false → depth ≤ 7 → size ≤ 32768 → eqb (size % 16) 0 ≡ directoryForm r depth size
+  whole : not (Bool·beq (eqb f 1) (eqb depth 0)) ≡ false → depth ≤ 7 → size ≤ 32768 → eqb (size % 16) 0 ≡ directoryForm f depth size
   unfolding directoryForm
   whole e d n =
-      sym (ap (λ t. rest && t) (alike (eqb r 0) (eqb depth 0) e) ∙ rw (le-leb depth 7 d, le-leb size longest n) (and-true (eqb (size % 16) 0)))
+      sym (ap (λ t. rest && t) (alike (eqb f 1) (eqb depth 0) e) ∙ rw (le-leb depth 7 d, le-leb size longest n) (and-true (eqb (size % 16) 0)))
 
 returns : tie.Need-returns
 returns c = search one-top

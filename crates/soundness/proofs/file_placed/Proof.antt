@@ -1,47 +1,44 @@
-use Prim.Native.Nat.{ℕ, suc, _+_, _*_, _/_, _≤_}
-use mathlib.Core.Path.{_≡_, _∙_}
+use Prim.Native.Nat.{ℕ, _-_, _≤_, _<_}
+use mathlib.Core.Path.{_≡_, sym, _∙_}
 use mathlib.Core.List.{List}
 use mathlib.Core.Bool.{Bool}
-use native.Mathlib.Numerals.{add-one}
 use native.Mathlib.Omega.{arith}
-use Rattle.records.specs.Numbers.{four}
-use Rattle.meaning.specs.Tables.{lengthAt, fileLength}
+use Rattle.meaning.specs.File.{needed}
+use Rattle.meaning.specs.Tables.{fileCount, fileLength}
 use Rattle.meaning.specs.Sound.{placedOnce}
-use Rattle.soundness.specs.Rules.{placeCount, placedBelow}
+use Rattle.tables.specs.Read.{FileRead}
+use Rattle.tables.specs.Searches.{blocksWith}
+use Rattle.tables.specs.StoreLaws.{file-length}
+use Rattle.tables.specs.declared.FileRecord.{FileRecord}
+use Rattle.soundness.specs.Rules.{placedBelow}
 use Rattle.soundness.specs.Seen.{recordTables}
 use borrow.Author.Needs.{needs}
 use Rattle.soundness.proofs.file_placed.Statement.{statement}
 use Rattle.soundness.proofs.file_placed.Tie as tie
 
-short : (files : List ℕ) (r size : ℕ) → size ≡ four files (8 * r + 4) → lengthAt files r ≤ 32768 → size ≤ 32768
-unfolding lengthAt
-short files r size e h = omega arith
+module _ (files : List ℕ) (f : ℕ) (asked : (0 < f) × (f ≤ fileCount files) × (fileLength files f ≤ 32768)) (x : FileRecord) (read : FileRead files (f - 1) x)
+    (n : ℕ) (n-is : n ≡ needed (x .length)) where
+  size : fileLength files f ≡ x .length
+  size = file-length files f (asked .0) ∙ sym (read .length)
 
-placed : (records files : List ℕ) (r size : ℕ) → size ≡ four files (8 * r + 4) →
-    (flag : Bool) → flag ≡ placedBelow records (r + 1) ((size + 511) / 512) → flag ≡ placedOnce (recordTables records files) (suc r)
-unfolding placedOnce placedBelow placeCount fileLength lengthAt
-placed records files r size e flag is = is ∙ rw (e, add-one)
+  few : n ≤ 64
+  few = omega (arith, size, asked .2)
 
-mul-four-at : tie.Need-mul-four-at
-mul-four-at c = search needs
+  placed : (records : List ℕ) (flag : Bool) → flag ≡ placedBelow records f n → flag ≡ placedOnce (recordTables records files) f
+  unfolding placedOnce placedBelow blocksWith
+  placed records flag is = is ∙ rw (n-is, size)
 
-add-four-at : tie.Need-add-four-at
-add-four-at c = search needs
+file-record-requires : tie.Need-file-record-requires
+file-record-requires c κs = search needs
 
-four-at-requires : tie.Need-four-at-requires
-four-at-requires c κs = search needs
+cast-size : tie.Need-cast-size
+cast-size c = search needs
 
-add-n : tie.Need-add-n
-add-n c = let h : c .four-at .result ≤ 32768 = search short in omega arith
-
-cast-t9 : tie.Need-cast-t9
-cast-t9 c = search needs
-
-add-t10 : tie.Need-add-t10
-add-t10 c = search needs
+places-requires : tie.Need-places-requires
+places-requires c κs = search needs
 
 cast-placed-below : tie.Need-cast-placed-below
-cast-placed-below c = let h : c .four-at .result ≤ 32768 = search short in omega arith
+cast-placed-below c = let h : c .places .result ≤ 64 = search few in omega arith
 
 placed-below-requires : tie.Need-placed-below-requires
 placed-below-requires c κs = search needs
@@ -53,12 +50,9 @@ pub file-placed-spec : {M : Type 1} → statement M
 file-placed-spec =
     tie.close
     (tie.spec
-    mul-four-at
-    add-four-at
-    four-at-requires
-    add-n
-    cast-t9
-    add-t10
+    file-record-requires
+    cast-size
+    places-requires
     cast-placed-below
     placed-below-requires
     returns)

@@ -6,18 +6,15 @@ use mathlib.Core.List.{List}
 use native.Mathlib.Omega.{arith}
 use lib.ListN.{length, set}
 use lib.Seq.{getD-set-same, getD-set-other}
-use Rattle.records.specs.RowLaws.{lowest-within}
 use Rattle.records.specs.Tests.{same-or-not}
-use Rattle.meaning.specs.Tables.{blockCount, blockOf, holds}
-use Rattle.soundness.specs.Slots.{Starts}
+use Rattle.meaning.specs.Tables.{blockCount, blockOf}
+use Rattle.soundness.specs.Slots.{Findable, Starts}
 use borrow.Author.Needs.{needs}
 use Rattle.soundness.proofs.find_blocks.Statement.{statement}
 use Rattle.soundness.proofs.find_blocks.Tie as tie
 
--- a block number is no larger than the count of blocks
-within : (records : List ℕ) (f i b : ℕ) → b ≡ blockOf records f i → b ≤ blockCount records
-unfolding blockOf
-within records f i b e = omega (arith, lowest-within (blockCount records) (λ b. holds records f i b))
+there : (records : List ℕ) (f n : ℕ) → Findable records f n → (p : ℕ) → p < n → (blockCount records ≤ 65536) × (blockOf records f p < blockCount records)
+there records f n can p h = (omega (arith, can .few-blocks), can .there p h)
 
 none : (records : List ℕ) (f : ℕ) (starts : List ℕ) → Starts records f 0 starts
 none records f starts = record { each = λ p h. absurd (omega arith) }
@@ -44,14 +41,11 @@ abbrev μ-loop : tie.MeasureT-loop
 loop-holds : tie.Need-loop-holds Inv-loop μ-loop
 loop-holds c = (search needs, refl, none _ _ _)
 
-cast-find-block : tie.Need-cast-find-block Inv-loop μ-loop
-cast-find-block c = search needs
+cast-held-block : tie.Need-cast-held-block Inv-loop μ-loop
+cast-held-block c = search needs
 
-find-block-requires : tie.Need-find-block-requires Inv-loop μ-loop
-find-block-requires c κs = search needs
-
-cast-starts : tie.Need-cast-starts Inv-loop μ-loop
-cast-starts c = let h : c .find-block .result ≤ blockCount (c .before .before .before .before .args .block-records .now) = search within in omega arith
+held-block-requires : tie.Need-held-block-requires Inv-loop μ-loop
+held-block-requires c κs = there _ _ _ (c .before .before .before .pre) _ (search needs)
 
 mul-starts : tie.Need-mul-starts Inv-loop μ-loop
 mul-starts c = search needs
@@ -66,7 +60,7 @@ loop-less : tie.Need-loop-less Inv-loop μ-loop
 loop-less c = search needs
 
 loop-again : tie.Need-loop-again Inv-loop μ-loop
-loop-again c = (search needs, search needs, one-more _ _ _ _ (search needs) (c .before .before .loop .inv .2) _ (c .find-block .ensures))
+loop-again c = (search needs, search needs, one-more _ _ _ _ (search needs) (c .before .before .loop .inv .2) _ (c .held-block .ensures))
 
 returns : tie.Need-returns Inv-loop μ-loop
 returns c = search (all, needs)
@@ -78,9 +72,8 @@ find-blocks-spec =
     Inv-loop
     μ-loop
     loop-holds
-    cast-find-block
-    find-block-requires
-    cast-starts
+    cast-held-block
+    held-block-requires
     mul-starts
     array-write-starts
     add-p

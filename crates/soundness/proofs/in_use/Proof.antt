@@ -1,4 +1,4 @@
-use Prim.Native.Nat.{ℕ, _-_, _*_, _/_, _≤_, _<_}
+use Prim.Native.Nat.{ℕ, _-_, _/_, _≤_, _<_}
 use mathlib.Core.Path.{_≡_, sym, _∙_}
 use mathlib.Core.List.{List, []}
 use mathlib.Core.Bool.{false, not}
@@ -6,11 +6,12 @@ use native.Mathlib.Omega.{arith}
 use borrow.Author.Tests.{lt-ltb, le-leb, lt-leb}
 use lib.ListN.{length}
 use lib.Dec.{ltb, eqb}
-use Rattle.records.specs.Numbers.{one}
 use Rattle.records.specs.Tests.{and-false}
 use Rattle.meaning.specs.Store.{inUse}
-use Rattle.meaning.specs.Tables.{tables, storeOf, kindAt}
+use Rattle.meaning.specs.Tables.{tables, storeOf}
+use Rattle.tables.specs.Read.{FileRead}
 use Rattle.tables.specs.StoreLaws.{store-kind}
+use Rattle.tables.specs.declared.FileRecord.{FileRecord}
 use Rattle.soundness.specs.Seen.{filesStore}
 use borrow.Author.Needs.{needs}
 use Rattle.soundness.proofs.in_use.Statement.{statement}
@@ -25,11 +26,11 @@ module _ (files : List ℕ) (f : ℕ) where
   unfolding inUse storeOf
   past h = rw (lt-leb f (length files / 8) h, and-false (ltb 0 f))
 
-  read : (f ≡ 0 → ⊥) → f ≤ length files / 8 → (kind : ℕ) → kind ≡ one files (8 * (f - 1)) → not (eqb kind 0) ≡ inUse (filesStore files) f
+  read : (f ≡ 0 → ⊥) → f ≤ length files / 8 → (x : FileRecord) → FileRead files (f - 1) x → not (eqb (x .kind) 0) ≡ inUse (filesStore files) f
   unfolding inUse
-  read n h kind e =
+  read n h x its =
       let some : 0 < f = omega arith in
-      let is : filesStore files .file f .kind ≡ kind = store-kind (tables [] [] files []) f some ∙ unfold kindAt in sym e in
+      let is : filesStore files .file f .kind ≡ x .kind = store-kind (tables [] [] files []) f some ∙ sym (its .kind) in
       rw (lt-ltb 0 f some, is) (unfold storeOf in rw (le-leb f (length files / 8) h))
 
 returns : tie.Need-returns
@@ -41,17 +42,8 @@ cast-if2 c = search needs
 returns-2 : tie.Need-returns-2
 returns-2 c = search past
 
-cast-one-at : tie.Need-cast-one-at
-cast-one-at c = search needs
-
-sub-one-at : tie.Need-sub-one-at
-sub-one-at c = search needs
-
-mul-one-at : tie.Need-mul-one-at
-mul-one-at c = search needs
-
-one-at-requires : tie.Need-one-at-requires
-one-at-requires c κs = search needs
+file-record-requires : tie.Need-file-record-requires
+file-record-requires c κs = search needs
 
 returns-3 : tie.Need-returns-3
 returns-3 c = search read
@@ -63,8 +55,5 @@ in-use-spec =
     returns
     cast-if2
     returns-2
-    cast-one-at
-    sub-one-at
-    mul-one-at
-    one-at-requires
+    file-record-requires
     returns-3)

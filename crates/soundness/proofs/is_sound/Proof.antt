@@ -4,7 +4,7 @@ use mathlib.Core.List.{List, [], _∷_}
 use mathlib.Core.Bool.{Bool, true, false, not}
 use borrow.Author.Tests.{not-true, not-false}
 use lib.ListN.{getD}
-use Rattle.meaning.specs.Tables.{tables, Tables, fileCount}
+use Rattle.meaning.specs.Tables.{tables, Tables, fileCount, channelCount}
 use Rattle.meaning.specs.Sound.{channelsSound, sound}
 use Rattle.soundness.specs.RuleLoops.{allOf-fails, allOf-last}
 use Rattle.soundness.specs.Rules.{allNamedBy}
@@ -31,7 +31,7 @@ module _ (blocks records files channels : List ℕ) where
     placed : Placed blocks records files
     placed = tables-placed t (sym a ∙ not-false tables-ok a-ok)
 
-    few : fileCount files ≤ 64
+    few : (fileCount files ≤ 64) × (channelCount channels ≤ 16)
     few = tables-few t (sym a ∙ not-false tables-ok a-ok)
 
     module _ (directories-ok : Bool) (d : directories-ok ≡ directoriesRule (directoriesStore blocks records files)) (d-ok : not directories-ok ≡ false) where
@@ -42,7 +42,7 @@ module _ (blocks records files channels : List ℕ) where
           (counts : List ℕ) → Counts (directoriesStore blocks records files) (fileCount files) counts →
           (flag : Bool) → flag ≡ allNamedBy (channelsStore files channels) counts → flag ≡ sound t
       last channels-ok b b-ok counts counted flag e =
-          e ∙ all-named t counts counted few
+          e ∙ all-named t counts counted (few .0)
           ∙ sym (sound-rules t ∙ allOf-last (tablesSound t ∷ channelsSound (channelsStore files channels) ∷ directoriesRule (directoriesStore blocks records files) ∷ []) (namedSound t)
           (sym a ∙ not-false tables-ok a-ok, (sym b ∙ not-false channels-ok b-ok, (ready .1, tt))))
 
@@ -53,7 +53,7 @@ returns : tie.Need-returns
 returns c = fails _ _ _ _ 0 _ (c .before .tables-sound .ensures) (c .if1 .taken)
 
 channels-sound-requires : tie.Need-channels-sound-requires
-channels-sound-requires c κs = search needs
+channels-sound-requires c κs = few _ _ _ _ _ (c .before .tables-sound .ensures) (c .if1 .left) .1
 
 returns-2 : tie.Need-returns-2
 returns-2 c = fails _ _ _ _ 1 _ (c .before .channels-sound .ensures) (c .if2 .taken)
@@ -72,7 +72,7 @@ count-names-requires c κs =
 all-named-requires : tie.Need-all-named-requires
 all-named-requires c κs =
     let e1 = c .before .before .before .before .before .before in
-    few _ _ _ _ _ (e1 .before .tables-sound .ensures) (e1 .if1 .left)
+    few _ _ _ _ _ (e1 .before .tables-sound .ensures) (e1 .if1 .left) .0
 
 returns-4 : tie.Need-returns-4
 returns-4 c =

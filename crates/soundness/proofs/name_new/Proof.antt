@@ -2,12 +2,11 @@
 use Prim.Native.Nat.{_-_, _≤_}
 use mathlib.Core.Path.{_≡_, sym}
 use mathlib.Core.Bool.{true}
-use native.Mathlib.Omega.{arith}
 use Rattle.records.specs.Rows.{every}
 use Rattle.records.specs.LoopLaws.{every-start, every-step}
 use Rattle.soundness.specs.RuleLoops.{rules-passed}
 use Rattle.soundness.specs.NewNames.{other, blank-new, compared-new, other-name, same-old}
-use Rattle.soundness.specs.Slots.{slot-small, slot-fits}
+use Rattle.soundness.specs.Slots.{slot-few, slot-fits}
 use Rattle.soundness.specs.ChainLaws.{slot-filled}
 use borrow.Author.Needs.{needs}
 use Rattle.soundness.proofs.name_new.Statement.{statement}
@@ -19,14 +18,11 @@ Inv-loop blocks starts i at j₀ j = (j ≤ i) × (every j (other blocks starts 
 abbrev μ-loop : tie.MeasureT-loop
 μ-loop blocks starts i at j₀ j = i - j
 
-slot-at-requires : tie.Need-slot-at-requires Inv-loop μ-loop
-slot-at-requires c κs = slot-small _ _ _ (c .before .pre .0) _ (search needs)
+record-start-requires : tie.Need-record-start-requires Inv-loop μ-loop
+record-start-requires c κs = slot-few _ _ _ (c .before .pre .0) _ (search needs)
 
-mul-at : tie.Need-mul-at Inv-loop μ-loop
-mul-at c = let h = slot-fits _ _ _ (c .before .before .pre .0) _ (search needs) _ (c .slot-at .ensures) in omega arith
-
-is-blank-requires : tie.Need-is-blank-requires Inv-loop μ-loop
-is-blank-requires c κs = slot-fits _ _ _ (c .before .before .pre .0) _ (search needs) _ (c .slot-at .ensures)
+zeros-at-requires : tie.Need-zeros-at-requires Inv-loop μ-loop
+zeros-at-requires c κs = slot-fits _ _ _ (c .before .before .pre .0) _ (search needs) _ (c .record-start .ensures)
 
 returns : tie.Need-returns Inv-loop μ-loop
 returns c = search blank-new
@@ -34,26 +30,23 @@ returns c = search blank-new
 loop-holds : tie.Need-loop-holds Inv-loop μ-loop
 loop-holds c = (search needs, search every-start)
 
-slot-at-requires-2 : tie.Need-slot-at-requires-2 Inv-loop μ-loop
-slot-at-requires-2 c κs = slot-small _ _ _ (c .before .before .before .before .before .before .pre .0) _ (search needs)
-
-mul-same-name : tie.Need-mul-same-name Inv-loop μ-loop
-mul-same-name c = let h = slot-fits _ _ _ (c .before .before .before .before .before .before .before .pre .0) _ (search needs) _ (c .slot-at2 .ensures) in omega arith
+record-start-requires-2 : tie.Need-record-start-requires-2 Inv-loop μ-loop
+record-start-requires-2 c κs = slot-few _ _ _ (c .before .before .before .before .before .before .pre .0) _ (search needs)
 
 same-name-requires : tie.Need-same-name-requires Inv-loop μ-loop
 same-name-requires c κs =
     let s = c .before .before .before .before .before in
     let p = s .before .before .pre in (
-      (slot-fits _ _ _ (p .0) _ (search needs) _ (c .slot-at2 .ensures), slot-fits _ _ _ (p .0) _ (search needs) _ (s .slot-at .ensures)),
-      (slot-filled _ _ _ (p .1) _ (search needs) _ (c .slot-at2 .ensures), slot-filled _ _ _ (p .1) _ (search needs) _ (s .slot-at .ensures)),
+      (slot-fits _ _ _ (p .0) _ (search needs) _ (c .record-start2 .ensures), slot-fits _ _ _ (p .0) _ (search needs) _ (s .record-start .ensures)),
+      (slot-filled _ _ _ (p .1) _ (search needs) _ (c .record-start2 .ensures), slot-filled _ _ _ (p .1) _ (search needs) _ (s .record-start .ensures)),
     )
 
 returns-2 : tie.Need-returns-2 Inv-loop μ-loop
 returns-2 c =
     let d = c .before in
     let e = d .before .before .before .before in
-    same-old _ _ _ _ (e .before .before .slot-at .ensures) _ (e .before .is-blank .ensures) (e .if1 .left)
-    _ _ (d .before .slot-at2 .ensures) _ (d .same-name .ensures) (search needs) (c .if2 .taken)
+    same-old _ _ _ _ (e .before .before .record-start .ensures) _ (e .before .zeros-at .ensures) (e .if1 .left)
+    _ _ (d .before .record-start2 .ensures) _ (d .same-name .ensures) (search needs) (c .if2 .taken)
 
 add-j : tie.Need-add-j Inv-loop μ-loop
 add-j c = search needs
@@ -68,15 +61,15 @@ loop-again c =
     let e = l .before in (
       search needs,
       every-step (other _ _ _) _ (l .loop .inv .1)
-          (other-name _ _ _ _ (e .before .before .slot-at .ensures) _ (e .before .is-blank .ensures) (e .if1 .left)
-          _ _ (d .before .slot-at2 .ensures) _ (d .same-name .ensures) (c .if2 .left)),
+          (other-name _ _ _ _ (e .before .before .record-start .ensures) _ (e .before .zeros-at .ensures) (e .if1 .left)
+          _ _ (d .before .record-start2 .ensures) _ (d .same-name .ensures) (c .if2 .left)),
     )
 
 returns-3 : tie.Need-returns-3 Inv-loop μ-loop
 returns-3 c =
     let l = c .before in
     let e = l .before in
-    compared-new _ _ _ _ (e .before .before .slot-at .ensures) _ (e .before .is-blank .ensures) (e .if1 .left)
+    compared-new _ _ _ _ (e .before .before .record-start .ensures) _ (e .before .zeros-at .ensures) (e .if1 .left)
     (sym (rules-passed (other _ _ _) _ _ (search needs) (search needs) (l .loop .inv .1)))
 
 pub name-new-spec : {M : Type 1} → statement M
@@ -85,13 +78,11 @@ name-new-spec =
     (tie.spec
     Inv-loop
     μ-loop
-    slot-at-requires
-    mul-at
-    is-blank-requires
+    record-start-requires
+    zeros-at-requires
     returns
     loop-holds
-    slot-at-requires-2
-    mul-same-name
+    record-start-requires-2
     same-name-requires
     returns-2
     add-j

@@ -21,6 +21,9 @@ abbrev μ-loop : tie.MeasureT-loop
 loop-holds : tie.Need-loop-holds Inv-loop μ-loop
 loop-holds c = (refl, search needs, search every-start)
 
+cast-t7 : tie.Need-cast-t7 Inv-loop μ-loop
+cast-t7 c = search needs
+
 block-sound-requires : tie.Need-block-sound-requires Inv-loop μ-loop
 block-sound-requires c κs = search needs
 
@@ -46,6 +49,7 @@ owners-sound-spec =
     Inv-loop
     μ-loop
     loop-holds
+    cast-t7
     block-sound-requires
     returns
     add-b

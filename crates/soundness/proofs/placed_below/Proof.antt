@@ -7,22 +7,23 @@ use borrow.Author.Tests.{eq-eqb, ne-eqb}
 use lib.Dec.{eqb}
 use Rattle.records.specs.Rows.{every}
 use Rattle.records.specs.LoopLaws.{every-start, every-step, every-fail}
-use Rattle.soundness.specs.Rules.{placeCount, placedBelow}
+use Rattle.tables.specs.Searches.{blocksWith}
+use Rattle.soundness.specs.Rules.{placedBelow}
 use Rattle.soundness.specs.RuleLoops.{rules-passed}
 use borrow.Author.Needs.{needs}
 use Rattle.soundness.proofs.placed_below.Statement.{statement}
 use Rattle.soundness.proofs.placed_below.Tie as tie
 
 abbrev once : List ℕ → ℕ → ℕ → Bool
-once records f i = eqb (placeCount records f i) 1
+once records f i = eqb (blocksWith records f i) 1
 
-module _ (records : List ℕ) (f n i count : ℕ) (is : count ≡ placeCount records f i) where
+module _ (records : List ℕ) (f n i count : ℕ) (is : count ≡ blocksWith records f i) where
   not-once : i < n → (count ≡ 1 → ⊥) → false ≡ placedBelow records f n
   unfolding placedBelow
-  not-once h d = sym (every-fail (once records f) i n h (ne-eqb (placeCount records f i) 1 (λ e. d (is ∙ e))))
+  not-once h d = sym (every-fail (once records f) i n h (ne-eqb (blocksWith records f i) 1 (λ e. d (is ∙ e))))
 
   one-more : every i (once records f) ≡ true → count ≡ 1 → every (i + 1) (once records f) ≡ true
-  one-more so-far e = every-step (once records f) i so-far (eq-eqb (placeCount records f i) 1 (sym is ∙ e))
+  one-more so-far e = every-step (once records f) i so-far (eq-eqb (blocksWith records f i) 1 (sym is ∙ e))
 
 all : (records : List ℕ) (f n i : ℕ) → i ≤ n → n ≤ i → every i (once records f) ≡ true → true ≡ placedBelow records f n
 unfolding placedBelow
@@ -37,8 +38,8 @@ abbrev μ-loop : tie.MeasureT-loop
 loop-holds : tie.Need-loop-holds Inv-loop μ-loop
 loop-holds c = (search needs, search every-start)
 
-count-place-requires : tie.Need-count-place-requires Inv-loop μ-loop
-count-place-requires c κs = search needs
+count-blocks-requires : tie.Need-count-blocks-requires Inv-loop μ-loop
+count-blocks-requires c κs = search needs
 
 returns : tie.Need-returns Inv-loop μ-loop
 returns c = search (not-once, needs)
@@ -62,7 +63,7 @@ placed-below-spec =
     Inv-loop
     μ-loop
     loop-holds
-    count-place-requires
+    count-blocks-requires
     returns
     add-i
     loop-less

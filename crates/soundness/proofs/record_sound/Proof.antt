@@ -17,20 +17,20 @@ use borrow.Author.Needs.{needs}
 use Rattle.soundness.proofs.record_sound.Statement.{statement}
 use Rattle.soundness.proofs.record_sound.Tie as tie
 
-module _ (blocks files : List ℕ) (k f : ℕ) (read : f ≡ entryIn (recordFrom blocks (16 * k)) .file) where
+module _ (blocks files : List ℕ) (at f : ℕ) (read : f ≡ entryIn (recordFrom blocks at) .file) (k : ℕ) (at-is : at ≡ 16 * k) where
   abbrev verdict : Bool
   verdict = recordSound (filesStore files) blocks k
 
   named : entryAt blocks k .file ≡ f
-  named = ap (λ e. e .file) (entry-at blocks k) ∙ sym read
+  named = ap (λ e. e .file) (entry-at blocks k) ∙ rw (← at-is) (sym read)
 
-  in-numbers : verdict ≡ isBlank blocks k || (inUse (filesStore files) f && not (eqb f 1) && isWritten (recordFrom blocks (16 * k)))
+  in-numbers : verdict ≡ isBlank blocks k || (inUse (filesStore files) f && not (eqb f 1) && isWritten (recordFrom blocks at))
   unfolding recordSound
-  in-numbers = rw (named, record-at blocks k)
+  in-numbers = rw (named, record-at blocks k, at-is)
 
-  blank : f ≡ 0 → (flag : Bool) → flag ≡ zeros blocks (16 * k) 16 → flag ≡ verdict
+  blank : f ≡ 0 → (flag : Bool) → flag ≡ zeros blocks at 16 → flag ≡ verdict
   unfolding isBlank
-  blank e flag z = z ∙ sym (in-numbers ∙ rw (e, none-unused (filesStore files)) (or-false (zeros blocks (16 * k) 16)))
+  blank e flag z = z ∙ sym (in-numbers ∙ rw (e, none-unused (filesStore files), at-is) (or-false (zeros blocks (16 * k) 16)))
 
   module _ (some : f ≡ 0 → ⊥) where
     used : isBlank blocks k ≡ false
@@ -43,54 +43,42 @@ module _ (blocks files : List ℕ) (k f : ℕ) (read : f ≡ entryIn (recordFrom
       to-none : not flag ≡ true → false ≡ verdict
       to-none n = sym (in-numbers ∙ rw (used, ← u, not-true flag n))
 
-      to-file : not flag ≡ false → (rest : Bool) → rest ≡ isWritten (recordFrom blocks (16 * k)) → rest ≡ verdict
+      to-file : not flag ≡ false → (rest : Bool) → rest ≡ isWritten (recordFrom blocks at) → rest ≡ verdict
       to-file n rest w = sym (in-numbers ∙ rw (used, ← u, not-false flag n, ne-eqb f 1 other, ← w))
-
-mul-record-file : tie.Need-mul-record-file
-mul-record-file c = search needs
 
 record-file-requires : tie.Need-record-file-requires
 record-file-requires c κs = search needs
 
-mul-is-blank : tie.Need-mul-is-blank
-mul-is-blank c = search needs
-
-is-blank-requires : tie.Need-is-blank-requires
-is-blank-requires c κs = search needs
+zeros-at-requires : tie.Need-zeros-at-requires
+zeros-at-requires c κs = search needs
 
 returns : tie.Need-returns
-returns c = search blank
+returns c k at-is = search blank
 
 returns-2 : tie.Need-returns-2
-returns-2 c = search to-root
+returns-2 c k at-is = search to-root
 
 in-use-requires : tie.Need-in-use-requires
 in-use-requires c κs = search needs
 
 returns-3 : tie.Need-returns-3
-returns-3 c = search to-none
-
-mul-is-written : tie.Need-mul-is-written
-mul-is-written c = search needs
+returns-3 c k at-is = search to-none
 
 is-written-requires : tie.Need-is-written-requires
 is-written-requires c κs = search needs
 
 returns-4 : tie.Need-returns-4
-returns-4 c = search to-file
+returns-4 c k at-is = search to-file
 
 pub record-sound-spec : {M : Type 1} → statement M
 record-sound-spec =
     tie.close
     (tie.spec
-    mul-record-file
     record-file-requires
-    mul-is-blank
-    is-blank-requires
+    zeros-at-requires
     returns
     returns-2
     in-use-requires
     returns-3
-    mul-is-written
     is-written-requires
     returns-4)

@@ -4,7 +4,7 @@ use mathlib.Core.List.{List, [], _∷_}
 use mathlib.Core.Bool.{Bool, true, false, not}
 use borrow.Author.Tests.{not-true, not-false}
 use lib.ListN.{getD}
-use Rattle.meaning.specs.Tables.{tables, Tables, fileCount}
+use Rattle.meaning.specs.Tables.{tables, Tables, blockCount, fileCount, channelCount}
 use Rattle.meaning.specs.Sound.{lengthsAgree, filesSound}
 use Rattle.layout.specs.Lengths.{lengths-agree}
 use Rattle.soundness.specs.RuleLoops.{allOf-fails, allOf-last}
@@ -31,6 +31,10 @@ module _ (blocks records files channels : List ℕ) where
         p ∙ sym (table-rules t ∙ allOf-last (lengthsAgree t ∷ zerosIn files ∷ zerosIn channels ∷ filesSound (filesStore files) ∷ ownersSound t ∷ []) (placesSound t)
         (sym a ∙ not-false lengths a-ok, (sym b ∙ not-false zeros-f b-ok, (sym c ∙ not-false zeros-c c-ok, (sym d ∙ not-false file-rule d-ok, (sym e ∙ not-false owners e-ok, tt))))))
 
+  -- tables whose lengths agree have few records
+  few : (lengths : Bool) → lengths ≡ lengthsAgree t → not lengths ≡ false → (blockCount records ≤ 128) × (fileCount files ≤ 64) × (channelCount channels ≤ 16)
+  few lengths a a-ok = let l = lengths-agree t (sym a ∙ not-false lengths a-ok) in (l .few-blocks, l .few-files, l .few-channels)
+
   -- what the rule of places asks for
   module _ (lengths file-rule owners : Bool) (a : lengths ≡ lengthsAgree t) (d : file-rule ≡ filesSound (filesStore files)) (e : owners ≡ ownersSound t)
       (a-ok : not lengths ≡ false) (d-ok : not file-rule ≡ false) (e-ok : not owners ≡ false) where
@@ -46,26 +50,28 @@ lengths-agree-requires c κs = search needs
 returns : tie.Need-returns
 returns c = fails _ _ _ _ 0 _ (c .before .lengths-agree .ensures) (c .if1 .taken)
 
-zeros-stand-requires : tie.Need-zeros-stand-requires
-zeros-stand-requires c κs = search needs
+file-zeros-stand-requires : tie.Need-file-zeros-stand-requires
+file-zeros-stand-requires c κs = few _ _ _ _ _ (c .before .lengths-agree .ensures) (c .if1 .left) .1
 
 returns-2 : tie.Need-returns-2
-returns-2 c = fails _ _ _ _ 1 _ (c .before .zeros-stand .ensures) (c .if2 .taken)
+returns-2 c = fails _ _ _ _ 1 _ (c .before .file-zeros-stand .ensures) (c .if2 .taken)
 
-zeros-stand-requires-2 : tie.Need-zeros-stand-requires-2
-zeros-stand-requires-2 c κs = search needs
+channel-zeros-stand-requires : tie.Need-channel-zeros-stand-requires
+channel-zeros-stand-requires c κs = let e1 = c .before .before in few _ _ _ _ _ (e1 .before .lengths-agree .ensures) (e1 .if1 .left) .2
 
 returns-3 : tie.Need-returns-3
-returns-3 c = fails _ _ _ _ 2 _ (c .before .zeros-stand2 .ensures) (c .if3 .taken)
+returns-3 c = fails _ _ _ _ 2 _ (c .before .channel-zeros-stand .ensures) (c .if3 .taken)
 
 files-sound-requires : tie.Need-files-sound-requires
-files-sound-requires c κs = search needs
+files-sound-requires c κs = let e1 = c .before .before .before .before in few _ _ _ _ _ (e1 .before .lengths-agree .ensures) (e1 .if1 .left) .1
 
 returns-4 : tie.Need-returns-4
 returns-4 c = fails _ _ _ _ 3 _ (c .before .files-sound .ensures) (c .if4 .taken)
 
 owners-sound-requires : tie.Need-owners-sound-requires
-owners-sound-requires c κs = search needs
+owners-sound-requires c κs =
+    let e1 = c .before .before .before .before .before .before in
+    few _ _ _ _ _ (e1 .before .lengths-agree .ensures) (e1 .if1 .left) .0
 
 returns-5 : tie.Need-returns-5
 returns-5 c = fails _ _ _ _ 4 _ (c .before .owners-sound .ensures) (c .if5 .taken)
@@ -84,7 +90,7 @@ returns-6 c =
     let e2 = e3 .before .before in
     let e1 = e2 .before .before in
     last _ _ _ _ _ _ _ _ _
-    (e1 .before .lengths-agree .ensures) (e2 .before .zeros-stand .ensures) (e3 .before .zeros-stand2 .ensures) (e4 .before .files-sound .ensures) (e5 .before .owners-sound .ensures)
+    (e1 .before .lengths-agree .ensures) (e2 .before .file-zeros-stand .ensures) (e3 .before .channel-zeros-stand .ensures) (e4 .before .files-sound .ensures) (e5 .before .owners-sound .ensures)
     (e1 .if1 .left) (e2 .if2 .left) (e3 .if3 .left) (e4 .if4 .left) (e5 .if5 .left) _ (c .places-sound .ensures)
 
 pub tables-sound-spec : {M : Type 1} → statement M
@@ -93,9 +99,9 @@ tables-sound-spec =
     (tie.spec
     lengths-agree-requires
     returns
-    zeros-stand-requires
+    file-zeros-stand-requires
     returns-2
-    zeros-stand-requires-2
+    channel-zeros-stand-requires
     returns-3
     files-sound-requires
     returns-4

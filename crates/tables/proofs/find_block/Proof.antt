@@ -1,10 +1,12 @@
 -- What is left of the search gives what the whole gives; the measure is how many blocks are left.
 use Prim.Native.Nat.{_-_, _≤_}
 use mathlib.Core.Path.{_≡_, sym, _∙_}
+use native.Mathlib.Nat.{le-of-eq}
 use native.Mathlib.Omega.{arith}
 use Rattle.records.specs.Rows.{lowest, lowestFrom}
 use Rattle.records.specs.LoopLaws.{search-start, search-none, found-equal, passed-other}
 use Rattle.tables.specs.SearchLaws.{isNumber, number-test, blockOf-number}
+use Rattle.tables.specs.Found.{block-found, block-nowhere}
 use borrow.Author.Needs.{needs}
 use Rattle.tables.proofs.find_block.Statement.{statement}
 use Rattle.tables.proofs.find_block.Tie as tie
@@ -15,14 +17,8 @@ Inv-loop records i wanted count b₀ b = (b ≤ count) × (lowest count (isNumbe
 abbrev μ-loop : tie.MeasureT-loop
 μ-loop records i wanted count b₀ b = count - b
 
-cast-wanted : tie.Need-cast-wanted Inv-loop μ-loop
-cast-wanted c = search needs
-
-mul-wanted : tie.Need-mul-wanted Inv-loop μ-loop
-mul-wanted c = search needs
-
-add-wanted : tie.Need-add-wanted Inv-loop μ-loop
-add-wanted c = search needs
+place-number-requires : tie.Need-place-number-requires Inv-loop μ-loop
+place-number-requires c κs = search needs
 
 loop-holds : tie.Need-loop-holds Inv-loop μ-loop
 loop-holds c = (search needs, search search-start)
@@ -33,12 +29,17 @@ mul-four-at c = search needs
 four-at-requires : tie.Need-four-at-requires Inv-loop μ-loop
 four-at-requires c κs = search needs
 
+cast-t11 : tie.Need-cast-t11 Inv-loop μ-loop
+cast-t11 c = search needs
+
 returns : tie.Need-returns Inv-loop μ-loop
 returns c =
     let l = c .before .before .before in
     let known = l .before .before .shared-slice-known in
-    found-equal _ _ _ (l .loop .inv .1) (search needs) _ _ (number-test _ _ _ _ (c .before .four-at .ensures)) (c .if1 .taken)
-    ∙ sym (blockOf-number _ (λ j. omega (arith, known .given j)) _ _ (search needs))
+    block-found _ _ _
+    (found-equal _ _ _ (l .loop .inv .1) (search needs) _ _ (number-test _ _ _ _ (c .before .four-at .ensures)) (c .if1 .taken)
+    ∙ sym (blockOf-number _ (λ j. omega (arith, known .given j)) _ _ _ (search needs) (l .before .place-number .ensures)))
+    (search needs)
 
 add-b : tie.Need-add-b Inv-loop μ-loop
 add-b c = search needs
@@ -55,8 +56,10 @@ returns-2 : tie.Need-returns-2 Inv-loop μ-loop
 returns-2 c =
     let l = c .before in
     let known = l .before .before .shared-slice-known in
-    search-none _ _ _ (l .loop .inv .1) (search needs) (search needs)
-    ∙ sym (blockOf-number _ (λ j. omega (arith, known .given j)) _ _ (search needs))
+    block-nowhere _ _
+    (le-of-eq
+    (search-none _ _ _ (l .loop .inv .1) (search needs) (search needs)
+    ∙ sym (blockOf-number _ (λ j. omega (arith, known .given j)) _ _ _ (search needs) (l .before .place-number .ensures))))
 
 pub find-block-spec : {M : Type 1} → statement M
 find-block-spec =
@@ -64,12 +67,11 @@ find-block-spec =
     (tie.spec
     Inv-loop
     μ-loop
-    cast-wanted
-    mul-wanted
-    add-wanted
+    place-number-requires
     loop-holds
     mul-four-at
     four-at-requires
+    cast-t11
     returns
     add-b
     loop-less

@@ -1,10 +1,12 @@
 -- What is left of the search gives what the whole gives; the measure is how many channels are left.
 use Prim.Native.Nat.{_-_, _≤_}
 use mathlib.Core.Path.{_≡_}
+use native.Mathlib.Nat.{le-of-eq}
 use Rattle.records.specs.Rows.{lowest, lowestFrom}
 use Rattle.records.specs.LoopLaws.{search-start, search-none, found-equal, passed-other}
 use Rattle.tables.specs.Searches.{isTo, channelWith}
 use Rattle.tables.specs.SearchLaws.{channel-test}
+use Rattle.tables.specs.Found.{channel-found, channel-nowhere}
 use borrow.Author.Needs.{needs}
 use Rattle.tables.proofs.find_channel.Statement.{statement}
 use Rattle.tables.proofs.find_channel.Tie as tie
@@ -24,9 +26,12 @@ mul-two-at c = search needs
 two-at-requires : tie.Need-two-at-requires Inv-loop μ-loop
 two-at-requires c κs = search needs
 
+cast-t9 : tie.Need-cast-t9 Inv-loop μ-loop
+cast-t9 c = search needs
+
 returns : tie.Need-returns Inv-loop μ-loop
 unfolding channelWith
-returns c = search (found-equal, channel-test, needs)
+returns c = search (channel-found, found-equal, channel-test, needs)
 
 add-c : tie.Need-add-c Inv-loop μ-loop
 add-c c = search needs
@@ -41,7 +46,7 @@ loop-again c =
 
 returns-2 : tie.Need-returns-2 Inv-loop μ-loop
 unfolding channelWith
-returns-2 c = search (search-none, needs)
+returns-2 c = search (channel-nowhere, le-of-eq, search-none, needs)
 
 pub find-channel-spec : {M : Type 1} → statement M
 find-channel-spec =
@@ -52,6 +57,7 @@ find-channel-spec =
     loop-holds
     mul-two-at
     two-at-requires
+    cast-t9
     returns
     add-c
     loop-less

@@ -1,10 +1,12 @@
 -- What is left of the search gives what the whole gives; the measure is how many records are left.
 use Prim.Native.Nat.{_-_, _≤_}
 use mathlib.Core.Path.{_≡_}
+use native.Mathlib.Nat.{le-of-eq}
 use Rattle.records.specs.Rows.{lowest, lowestFrom}
 use Rattle.records.specs.LoopLaws.{search-start, search-none, found-equal, passed-other}
 use Rattle.tables.specs.Searches.{isOfKind, fileWith}
 use Rattle.tables.specs.SearchLaws.{kind-test}
+use Rattle.tables.specs.Found.{file-found, file-nowhere}
 use borrow.Author.Needs.{needs}
 use Rattle.tables.proofs.find_file.Statement.{statement}
 use Rattle.tables.proofs.find_file.Tie as tie
@@ -24,9 +26,15 @@ mul-one-at c = search needs
 one-at-requires : tie.Need-one-at-requires Inv-loop μ-loop
 one-at-requires c κs = search needs
 
+cast-t9 : tie.Need-cast-t9 Inv-loop μ-loop
+cast-t9 c = search needs
+
+add-t10 : tie.Need-add-t10 Inv-loop μ-loop
+add-t10 c = search needs
+
 returns : tie.Need-returns Inv-loop μ-loop
 unfolding fileWith
-returns c = search (found-equal, kind-test, needs)
+returns c = search (file-found, found-equal, kind-test, needs)
 
 add-r : tie.Need-add-r Inv-loop μ-loop
 add-r c = search needs
@@ -41,7 +49,7 @@ loop-again c =
 
 returns-2 : tie.Need-returns-2 Inv-loop μ-loop
 unfolding fileWith
-returns-2 c = search (search-none, needs)
+returns-2 c = search (file-nowhere, le-of-eq, search-none, needs)
 
 pub find-file-spec : {M : Type 1} → statement M
 find-file-spec =
@@ -52,6 +60,8 @@ find-file-spec =
     loop-holds
     mul-one-at
     one-at-requires
+    cast-t9
+    add-t10
     returns
     add-r
     loop-less

@@ -1,40 +1,23 @@
 -- The count is of the blocks passed; the measure is how many are left.
-use Prim.Native.Nat.{ℕ, _+_, _-_, _*_, _≤_, _<_}
+use Prim.Native.Nat.{_-_, _≤_}
 use mathlib.Core.Path.{_≡_, sym, _∙_}
 use mathlib.Core.Logic.{⊎-elim}
-use mathlib.Core.List.{List}
 use native.Mathlib.Omega.{arith}
-use lib.ListN.{getD}
 use Rattle.records.specs.Rows.{howMany}
-use Rattle.records.specs.RowLaws.{howMany-cong}
 use Rattle.records.specs.LoopLaws.{count-start, counted-equal, skipped-other, counted-all}
-use Rattle.meaning.specs.Tables.{blockCount, holds}
-use Rattle.tables.specs.SearchLaws.{isNumber, number-test, holds-number}
-use Rattle.soundness.specs.Rules.{placeCount}
+use Rattle.tables.specs.SearchLaws.{isNumber, number-test, blocksWith-number}
 use borrow.Author.Needs.{needs}
-use Rattle.soundness.proofs.count_place.Statement.{statement}
-use Rattle.soundness.proofs.count_place.Tie as tie
-
-placeCount-number : (records : List ℕ) → ((j : ℕ) → getD records j 0 < 256) → (f i : ℕ) → f < 65536 →
-    placeCount records f i ≡ howMany (blockCount records) (isNumber records (f + 65536 * i))
-unfolding placeCount
-placeCount-number records bytes f i small =
-    howMany-cong (blockCount records) (λ b. holds records f i b) (isNumber records (f + 65536 * i)) (λ b h. holds-number records bytes f i b small)
+use Rattle.tables.proofs.count_blocks.Statement.{statement}
+use Rattle.tables.proofs.count_blocks.Tie as tie
 
 abbrev Inv-loop : tie.InvT-loop
-Inv-loop block-records i wanted count found₀ b₀ found b = (b ≤ count) × (found ≤ b) × (found ≡ howMany b (isNumber block-records wanted))
+Inv-loop records i wanted count found₀ b₀ found b = (b ≤ count) × (found ≤ b) × (found ≡ howMany b (isNumber records wanted))
 
 abbrev μ-loop : tie.MeasureT-loop
-μ-loop block-records i wanted count found₀ b₀ found b = count - b
+μ-loop records i wanted count found₀ b₀ found b = count - b
 
-cast-wanted : tie.Need-cast-wanted Inv-loop μ-loop
-cast-wanted c = search needs
-
-mul-wanted : tie.Need-mul-wanted Inv-loop μ-loop
-mul-wanted c = search needs
-
-add-wanted : tie.Need-add-wanted Inv-loop μ-loop
-add-wanted c = search needs
+place-number-requires : tie.Need-place-number-requires Inv-loop μ-loop
+place-number-requires c κs = search needs
 
 loop-holds : tie.Need-loop-holds Inv-loop μ-loop
 loop-holds c = (search needs, search needs, sym (count-start _))
@@ -69,17 +52,15 @@ returns c =
     let l = c .before in
     let known = l .before .before .shared-slice-known in
     counted-all _ _ _ _ (search needs) (search needs) (l .loop .inv .2)
-    ∙ sym (placeCount-number _ (λ j. omega (arith, known .given j)) _ _ (search needs))
+    ∙ sym (blocksWith-number _ (λ j. omega (arith, known .given j)) _ _ _ (search needs) (l .before .place-number .ensures))
 
-pub count-place-spec : {M : Type 1} → statement M
-count-place-spec =
+pub count-blocks-spec : {M : Type 1} → statement M
+count-blocks-spec =
     tie.close
     (tie.spec
     Inv-loop
     μ-loop
-    cast-wanted
-    mul-wanted
-    add-wanted
+    place-number-requires
     loop-holds
     mul-four-at
     four-at-requires
