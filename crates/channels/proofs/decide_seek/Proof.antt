@@ -87,11 +87,14 @@ file-record-requires c κs = (search file-some, search file-last)
 seek-to-requires : tie.Need-seek-to-requires
 seek-to-requires c κs = search needs
 
+cast-if2 : tie.Need-cast-if2
+cast-if2 c = search needs
+
 returns-2 : tie.Need-returns-2
 returns-2 c = search far
 
-cast-t18 : tie.Need-cast-t18
-cast-t18 c = search needs
+cast-t19 : tie.Need-cast-t19
+cast-t19 c = search needs
 
 returns-3 : tie.Need-returns-3
 returns-3 c = search refusal
@@ -109,7 +112,8 @@ decide-seek-spec =
     returns
     file-record-requires
     seek-to-requires
+    cast-if2
     returns-2
-    cast-t18
+    cast-t19
     returns-3
     returns-4)
