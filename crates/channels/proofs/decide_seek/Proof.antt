@@ -1,7 +1,7 @@
 -- Each return is a case of what seek gives on a channel in use, by the tests that led there.
-use Prim.Native.Nat.{ℕ, _+_, _-_, _*_, _≤_, _<_}
-use mathlib.Core.Path.{_≡_, refl, sym, ap, subst, _∙_}
-use mathlib.Core.List.{List, [], _∷_}
+use Prim.Native.Nat.{ℕ, _-_, _≤_, _<_}
+use mathlib.Core.Path.{_≡_, refl, _∙_}
+use mathlib.Core.List.{[], _∷_}
 use mathlib.Core.Bool.{_||_}
 use native.Mathlib.Omega.{arith}
 use borrow.Author.Needs.{needs}
@@ -11,7 +11,7 @@ use lib.Dec.{ltb}
 use Rattle.meaning.specs.Store.{channel, channelTo}
 use Rattle.meaning.specs.Tables.{Tables, storeOf}
 use Rattle.meaning.specs.ChannelCalls.{seek, seekTo, lastPosition}
-use Rattle.meaning.specs.Result.{Result, refused, done, unless}
+use Rattle.meaning.specs.Result.{Result, done, unless}
 use Rattle.meaning.specs.Run.{Call, resultOf, meaning, accepts}
 use Rattle.meaning.specs.declared.Report.{Report}
 use Rattle.meaning.specs.declared.Report.the-variants.{BadSeek}

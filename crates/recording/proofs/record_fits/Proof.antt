@@ -1,15 +1,14 @@
 -- A record within the directory takes no block; one at its end makes it 16 bytes longer.
-use Prim.Native.Nat.{ℕ, _+_, _-_, _*_, _/_, _≤_, _<_, max}
-use mathlib.Core.Path.{_≡_, refl, sym, ap, _∙_}
+use Prim.Native.Nat.{ℕ, _+_, _-_, _*_, _≤_, _<_, max}
+use mathlib.Core.Path.{_≡_, sym, _∙_}
 use mathlib.Core.List.{List}
-use mathlib.Core.Bool.{Bool, true, false}
+use mathlib.Core.Bool.{true}
 use native.Mathlib.Omega.{arith}
-use lib.Dec.{ltb}
 use borrow.Author.Needs.{needs}
 use borrow.Author.Tests.{lt-ltb, le-ltb}
 use Rattle.meaning.specs.File.{needed, longest}
 use Rattle.meaning.specs.Store.{isDirectory}
-use Rattle.meaning.specs.Tables.{fileCount, fileLength}
+use Rattle.meaning.specs.Tables.{fileLength}
 use Rattle.meaning.specs.Result.{unless}
 use Rattle.meaning.specs.declared.Report.the-variants.{NoRoom, TooBig}
 use Rattle.tables.specs.Read.{FileRead}
