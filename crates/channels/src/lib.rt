@@ -5,6 +5,7 @@ use files::read_file;
 use meaning::ChannelNo;
 use meaning::Counted;
 use meaning::FileNo;
+use meaning::LAST_POSITION;
 use meaning::Report;
 use meaning::Sought;
 use meaning::Stat;
@@ -126,7 +127,7 @@ fn decide_seek(
             let f = channel.file;
             let record = file_record(file_records, f);
             let to = seek_to(mode, channel.position, record.length, n);
-            if 16777215 < to {
+            if (LAST_POSITION as u64) < to {
                 return Seeking::No(Report::BadSeek);
             }
             Seeking::To(ChannelRecord {

@@ -7,10 +7,10 @@ use blocks::take_blocks;
 use meaning::FileNo;
 use tables::FileRecord;
 use tables::file_record;
+use tables::places;
 use tables::put_file_record;
 ghost use mathlib.Core.Path.{_≡_};
-ghost use Prim.Native.Nat.{_-_, _≤_, min, max};
-ghost use Rattle.meaning.specs.File.{needed};
+ghost use Prim.Native.Nat.{_-_, min, max};
 ghost use Rattle.files.specs.Files.{HasFile, Writable, Clearable, Reads, Writes, Clears};
 
 // How far a lies beyond b, 0 where it does not.
@@ -32,14 +32,6 @@ fn larger(a: usize, b: usize) -> usize
     ensures { λ r. ⌜ r ≡ max a b ⌝ }
 {
     if a < b { b } else { a }
-}
-
-// How many places a file of n bytes has.
-fn places(n: usize) -> u16
-    requires { ⌜ n ≤ 65536 ⌝ }
-    ensures { λ r. ⌜ r ≡ needed n ⌝ }
-{
-    ((n + 511) / 512) as u16
 }
 
 // Reads bytes of file f, from byte `at` on, as many as it has and `buffer` holds, to the head of `buffer`. It answers how many.
@@ -77,7 +69,8 @@ pub fn write_file(
     let old = record.length as usize;
     let new = larger(old, start + data.len());
     let first = places(old);
-    take_blocks(block_records, f, first, places(new) - first);
+    let more = places(new) - first;
+    take_blocks(block_records, f, first as u16, more as u16);
     fill_gap(blocks, block_records, f, old, beyond(start, old));
     lay_run(blocks, block_records, f, start, data);
     put_file_record(

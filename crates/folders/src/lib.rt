@@ -19,7 +19,6 @@ use tables::FoundFile;
 use tables::file_record;
 use tables::find_file;
 use tables::is_held;
-ghost use mathlib.Core.Path.{_≡_};
 ghost use Rattle.meaning.specs.Run.{Keeps, Call, entered};
 ghost use Rattle.meaning.specs.Answers.{reported};
 ghost use Rattle.folders.specs.Remove.{Removed};

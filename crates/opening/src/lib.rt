@@ -19,7 +19,6 @@ use tables::FoundFile;
 use tables::find_channel;
 use tables::find_file;
 use tables::put_channel_record;
-ghost use mathlib.Core.Path.{_≡_};
 ghost use Rattle.meaning.specs.Run.{Keeps, Call, entered};
 ghost use Rattle.meaning.specs.Answers.{opened};
 ghost use Rattle.opening.specs.Open.{Decided};

@@ -1,11 +1,13 @@
 // A name's record written into its directory, or made blank.
 use files::write_file;
 use meaning::FileNo;
+use meaning::LONGEST;
 use meaning::Report;
 use names::last_start;
 use names::write_record;
 use tables::count_free_blocks;
 use tables::file_record;
+use tables::places;
 ghost use mathlib.Core.Path.{_≡_};
 ghost use Prim.Native.Nat.{_+_, _*_, _≤_, _<_, max};
 ghost use lib.ListN.{length};
@@ -82,11 +84,11 @@ pub fn record_fits(block_records: &[u8], file_records: &[u8], d: FileNo, i: usiz
     if end <= size {
         return Fit::Fits;
     }
-    if 32768 < end {
+    if (LONGEST as usize) < end {
         return Fit::No(Report::TooBig);
     }
     let free = count_free_blocks(block_records);
-    if free < (end + 511) / 512 - (size + 511) / 512 {
+    if free < places(end) - places(size) {
         return Fit::No(Report::NoRoom);
     }
     Fit::Fits

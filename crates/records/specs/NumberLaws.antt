@@ -1,8 +1,9 @@
 -- Laws of numbers in bytes. An index `j` with `j ≡ ..` is free, so that a caller's own form of it serves.
 use Prim.Native.Nat.{ℕ, _+_, _*_, _/_, _%_, _≤_, _<_}
 use mathlib.Core.Path.{_≡_, refl, ap}
+use mathlib.Core.Logic.{_≢_, ⊎-elim}
 use mathlib.Core.List.{List, _++_}
-use mathlib.Core.Bool.{true}
+use mathlib.Core.Bool.{true, false}
 use native.Mathlib.Omega.{arith}
 use native.Mathlib.Nat.{add-zero, add-assoc}
 use lib.ListN.{length, getD, List·getD-append}
@@ -10,6 +11,7 @@ use lib.Seq.{getD-append-add}
 use lib.Dec.{eqb}
 use borrow.Author.Tests.{eq-eqb, eqb-true}
 use Rattle.records.specs.RowLaws.{every-all, all-every, every-cong}
+use Rattle.records.specs.Tests.{lt-or-ge, same-or-not, not-so}
 use Rattle.records.specs.Numbers.{one, two, four, twoBytes, fourBytes, zeros}
 
 -- ---- a number and its bytes
@@ -98,3 +100,47 @@ module _ (l : List ℕ) (at n : ℕ) where
   pub zero-zeros : ((i : ℕ) → i < n → getD l (at + i) 0 ≡ 0) → zeros l at n ≡ true
   unfolding zeros one
   zero-zeros z = all-every n (λ i. eqb (getD l (at + i) 0) 0) (λ i (h : i < n). eq-eqb (getD l (at + i) 0) 0 (z i h))
+
+  pub zeros-less : (m : ℕ) → m ≤ n → zeros l at n ≡ true → zeros l at m ≡ true
+  unfolding zeros
+  zeros-less m h z = all-every m (λ i. eqb (one l (at + i)) 0) (λ i (b : i < m). every-all n (λ i. eqb (one l (at + i)) 0) z i (omega arith))
+
+-- ---- zeros, four at a time
+
+-- four bytes are zero just where their number is
+four-zero : (l : List ℕ) (at : ℕ) → getD l at 0 ≡ 0 → getD l (at + 1) 0 ≡ 0 → getD l (at + 2) 0 ≡ 0 → getD l (at + 2 + 1) 0 ≡ 0 → four l at ≡ 0
+unfolding four two one
+four-zero l at a b c d = omega arith
+
+zero-four : (l : List ℕ) (at : ℕ) → four l at ≡ 0 → (j : ℕ) → at ≤ j → j < at + 4 → getD l j 0 ≡ 0
+unfolding four two one
+zero-four l at e j low high =
+    let a : getD l at 0 ≡ 0 = omega arith in
+    let b : getD l (at + 1) 0 ≡ 0 = omega arith in
+    let c : getD l (at + 2) 0 ≡ 0 = omega arith in
+    let d : getD l (at + 2 + 1) 0 ≡ 0 = omega arith in
+    ⊎-elim
+    (λ (s : j ≡ at). rw s a)
+    (λ (n : j ≢ at). ⊎-elim
+    (λ (s : j ≡ at + 1). rw s b)
+    (λ (m : j ≢ at + 1). ⊎-elim
+    (λ (s : j ≡ at + 2). rw s c)
+    (λ (o : j ≢ at + 2). let s : j ≡ at + 2 + 1 = omega arith in rw s d)
+    (same-or-not j (at + 2)))
+    (same-or-not j (at + 1)))
+    (same-or-not j at)
+
+module _ (l : List ℕ) (at k : ℕ) where
+  pub zeros-four : zeros l at (4 * k) ≡ true → four l (at + 4 * k) ≡ 0 → zeros l at (4 * (k + 1)) ≡ true
+  zeros-four z e =
+      zero-zeros l at (4 * (k + 1))
+      (λ i (h : i < 4 * (k + 1)). ⊎-elim
+      (λ (b : i < 4 * k). zeros-zero l at (4 * k) z i b)
+      (λ (b : 4 * k ≤ i). zero-four l (at + 4 * k) e (at + i) (omega arith) (omega arith))
+      (lt-or-ge i (4 * k)))
+
+  pub zeros-other : (n : ℕ) → k < n → four l (at + 4 * k) ≢ 0 → zeros l at (4 * n) ≡ false
+  zeros-other n h d = not-so (zeros l at (4 * n)) (λ z. d (four-zero l (at + 4 * k) (byte z 0 _ (omega arith) (omega arith)) (byte z 1 _ (omega arith) refl) (byte z 2 _ (omega arith) refl) (byte z 3 _ (omega arith) (omega arith))))
+    where
+      byte : zeros l at (4 * n) ≡ true → (i j : ℕ) → i < 4 → j ≡ at + 4 * k + i → getD l j 0 ≡ 0
+      byte z i j b e = let s : at + (4 * k + i) ≡ j = omega arith in rw s at (zeros-zero l at (4 * n) z (4 * k + i) (omega arith))

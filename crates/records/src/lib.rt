@@ -1,7 +1,7 @@
 // Numbers in fixed-size records, low byte first. Definitions and laws, of rows of indices too, are in specs/.
 ghost use mathlib.Core.Path.{_≡_};
 ghost use mathlib.Core.List.{[], _∷_};
-ghost use Prim.Native.Nat.{_+_, _≤_, _<_};
+ghost use Prim.Native.Nat.{_+_, _*_, _≤_, _<_};
 ghost use lib.ListN.{length};
 ghost use lib.Seq.{sets};
 ghost use Rattle.records.specs.Numbers.{one, two, four, twoBytes, fourBytes, zeros};
@@ -34,12 +34,31 @@ pub fn four_at(table: &[u8], at: usize) -> u32
     low as u32 + 65536 * (high as u32)
 }
 
-// Whether n bytes from a place on are zero.
+// Whether n numbers of four bytes from a place on are zero.
+fn fours_zero(table: &[u8], at: usize, n: usize) -> bool
+    requires { ⌜ at + 4 * n ≤ length (now table) ⌝ }
+    ensures { λ r. ⌜ r ≡ zeros (now (table .entry)) at (4 * n) ⌝ }
+{
+    let mut k = 0;
+    while k < n {
+        if four_at(table, at + 4 * k) != 0 {
+            return false;
+        }
+        k += 1;
+    }
+    true
+}
+
+// Whether n bytes from a place on are zero: four at a time, and those left one by one.
 pub fn zeros_at(table: &[u8], at: usize, n: usize) -> bool
     requires { ⌜ at + n ≤ length (now table) ⌝ }
     ensures { λ r. ⌜ r ≡ zeros (now (table .entry)) at n ⌝ }
 {
-    let mut i = 0;
+    let fours = n / 4;
+    if !fours_zero(table, at, fours) {
+        return false;
+    }
+    let mut i = 4 * fours;
     while i < n {
         if one_at(table, at + i) != 0 {
             return false;

@@ -7,21 +7,9 @@ use borrow.Author.Tests.{lt-ltb, le-ltb}
 use Rattle.records.specs.Tests.{lt-or-ge}
 use Rattle.meaning.specs.declared.FileNo.{FileNo}
 use Rattle.meaning.specs.declared.ChannelNo.{ChannelNo}
-use Rattle.tables.specs.declared.FoundBlock as block
 use Rattle.tables.specs.declared.FoundFile as file
 use Rattle.tables.specs.declared.FoundChannel as channel
-use Rattle.tables.specs.Searches.{blockFound, fileFound, channelFound}
-
--- ---- a block
-
-module _ (count b : ℕ) where
-  pub block-found : (i : ℕ) → i ≡ b → i < count → block.the-variants.At (record { 0 = i }) ≡ blockFound count b
-  unfolding blockFound
-  block-found i e h = rw (← e, lt-ltb i count h)
-
-  pub block-nowhere : count ≤ b → block.the-variants.Nowhere ≡ blockFound count b
-  unfolding blockFound
-  block-nowhere h = rw (le-ltb b count h)
+use Rattle.tables.specs.Searches.{fileFound, channelFound}
 
 -- ---- a file
 

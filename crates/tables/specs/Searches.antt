@@ -6,15 +6,11 @@ use lib.Dec.{eqb, ltb}
 use Rattle.records.specs.Rows.{pick, lowest, howMany, sum}
 use Rattle.meaning.specs.File.{needed}
 use Rattle.meaning.specs.Tables.{blockCount, fileCount, channelCount, kindAt, lengthAt, channelFileAt, holds, isFree}
-use Rattle.tables.specs.declared.FoundBlock as block
 use Rattle.tables.specs.declared.FoundFile as file
 use Rattle.tables.specs.declared.FoundChannel as channel
 
--- the block, the file or the channel of a record that a search over `count` records ended at: one of them, or none.
--- Block b's record is number b, channel c's number c, and file r + 1's number r.
-unfoldable pub blockFound : ℕ → ℕ → block.FoundBlock
-blockFound count b = pick (ltb b count) (block.the-variants.At (record { 0 = b })) block.the-variants.Nowhere
-
+-- the file or the channel of a record that a search over `count` records ended at: one of them, or none.
+-- Channel c's record is number c, file r + 1's number r.
 unfoldable pub fileFound : ℕ → ℕ → file.FoundFile
 fileFound count r = pick (ltb r count) (file.the-variants.At (record { 0 = r + 1 })) file.the-variants.Nowhere
 

@@ -18,7 +18,7 @@ ghost use Rattle.records.specs.Numbers.{zeros, withRecord};
 ghost use Rattle.meaning.specs.File.{needed};
 ghost use Rattle.meaning.specs.Tables.{blockCount, fileCount, channelCount, blockRecord, fileRecord, channelRecord, blockOf};
 ghost use Rattle.tables.specs.Read.{BlockRead, FileRead, ChannelRead};
-ghost use Rattle.tables.specs.Searches.{blocksWith, freeBlockCount, blockFound, fileWith, fileFound, filesWith, channelWith, channelFound, channelsWith};
+ghost use Rattle.tables.specs.Searches.{blocksWith, freeBlockCount, fileWith, fileFound, filesWith, channelWith, channelFound, channelsWith};
 
 pub struct BlockRecord {
     pub owner: FileNo,
@@ -103,7 +103,7 @@ pub fn places(n: usize) -> usize
     requires { ⌜ n ≤ 4294967295 ⌝ }
     ensures { λ r. ⌜ r ≡ needed n ⌝ }
 {
-    (n + 511) / 512
+    (n + (BLOCK_SIZE - 1)) / BLOCK_SIZE
 }
 
 // Block b's record written.
@@ -139,12 +139,6 @@ pub fn put_channel_record(records: &mut [u8], c: ChannelNo, record: ChannelRecor
     put_four(records, at + 4, record.position);
 }
 
-// What a search for a block finds.
-pub enum FoundBlock {
-    At(BlockNo),
-    Nowhere,
-}
-
 // What a search for a file finds.
 pub enum FoundFile {
     At(FileNo),
@@ -164,24 +158,7 @@ fn place_number(f: FileNo, i: u16) -> u32
     f.0 as u32 + 65536 * (i as u32)
 }
 
-// The block that is place i of file f, if there is one. Owner and place are compared as one number.
-pub fn find_block(records: &[u8], f: FileNo, i: u16) -> FoundBlock
-    requires { ⌜ blockCount (now records) ≤ 65536 ⌝ }
-    ensures { λ r. ⌜ r ≡ blockFound (blockCount (now (records .entry))) (blockOf (now (records .entry)) (f .0) i) ⌝ }
-{
-    let wanted = place_number(f, i);
-    let count = records.len() / 4;
-    let mut b = 0;
-    while b < count {
-        if four_at(records, 4 * b) == wanted {
-            return FoundBlock::At(BlockNo(b as u16));
-        }
-        b += 1;
-    }
-    FoundBlock::Nowhere
-}
-
-// The block of a place that has one. What is looked for is there, so the search tests no end.
+// The block of a place that has one. Owner and place are compared as one number; what is looked for is there, so the search tests no end.
 pub fn held_block(records: &[u8], f: FileNo, i: u16) -> BlockNo
     requires { ⌜ (blockCount (now records) ≤ 65536) × (blockOf (now records) (f .0) i < blockCount (now records)) ⌝ }
     ensures { λ r. ⌜ r .0 ≡ blockOf (now (records .entry)) (f .0) i ⌝ }

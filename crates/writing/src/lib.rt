@@ -5,10 +5,12 @@ use channels::moved_by;
 use files::write_file;
 use meaning::ChannelNo;
 use meaning::Counted;
+use meaning::LONGEST;
 use meaning::Report;
 use tables::ChannelRecord;
 use tables::count_free_blocks;
 use tables::file_record;
+use tables::places;
 use tables::put_channel_record;
 ghost use mathlib.Core.Path.{_≡_};
 ghost use Prim.Native.Nat.{_+_, _-_, _≤_, max};
@@ -23,10 +25,10 @@ ghost use Rattle.writing.specs.Write.{Decided};
 fn too_long(at: u32, n: usize) -> bool
     ensures { λ r. ⌜ r ≡ ltb longest (at + n) ⌝ }
 {
-    if 32768 < n {
+    if (LONGEST as usize) < n {
         return true;
     }
-    32768 < at as usize + n
+    (LONGEST as usize) < at as usize + n
 }
 
 // How many blocks more a file of some bytes needs, where n bytes are written from a place on.
@@ -37,7 +39,7 @@ fn new_blocks(old: usize, at: usize, n: usize) -> usize
     if at + n < old {
         return 0;
     }
-    (at + n + 511) / 512 - (old + 511) / 512
+    places(at + n) - places(old)
 }
 
 // What write decides: the channel's record as it is, or a refusal.

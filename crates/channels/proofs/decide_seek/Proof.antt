@@ -1,8 +1,9 @@
 -- Each return is a case of what seek gives on a channel in use, by the tests that led there.
-use Prim.Native.Nat.{ℕ, _+_, _-_, _*_, _≤_, _<_}
-use mathlib.Core.Path.{_≡_, refl, sym, ap, subst, _∙_}
-use mathlib.Core.List.{List, [], _∷_}
+use Prim.Native.Nat.{ℕ, _-_, _≤_, _<_}
+use mathlib.Core.Path.{_≡_, refl, _∙_}
+use mathlib.Core.List.{[], _∷_}
 use mathlib.Core.Bool.{_||_}
+use native.Mathlib.Omega.{arith}
 use borrow.Author.Needs.{needs}
 use borrow.Author.Tests.{lt-ltb, le-ltb}
 use lib.ListN.{length}
@@ -10,7 +11,7 @@ use lib.Dec.{ltb}
 use Rattle.meaning.specs.Store.{channel, channelTo}
 use Rattle.meaning.specs.Tables.{Tables, storeOf}
 use Rattle.meaning.specs.ChannelCalls.{seek, seekTo, lastPosition}
-use Rattle.meaning.specs.Result.{Result, refused, done, unless}
+use Rattle.meaning.specs.Result.{Result, done, unless}
 use Rattle.meaning.specs.Run.{Call, resultOf, meaning, accepts}
 use Rattle.meaning.specs.declared.Report.{Report}
 use Rattle.meaning.specs.declared.Report.the-variants.{BadSeek}
@@ -87,11 +88,14 @@ file-record-requires c κs = (search file-some, search file-last)
 seek-to-requires : tie.Need-seek-to-requires
 seek-to-requires c κs = search needs
 
-returns-2 : tie.Need-returns-2
-returns-2 c = search far
+cast-if2 : tie.Need-cast-if2
+cast-if2 c = search needs
 
-cast-t18 : tie.Need-cast-t18
-cast-t18 c = search needs
+returns-2 : tie.Need-returns-2
+returns-2 c = let past : lastPosition < c .before .seek-to .result = omega arith in search far
+
+cast-t19 : tie.Need-cast-t19
+cast-t19 c = search needs
 
 returns-3 : tie.Need-returns-3
 returns-3 c = search refusal
@@ -109,7 +113,8 @@ decide-seek-spec =
     returns
     file-record-requires
     seek-to-requires
+    cast-if2
     returns-2
-    cast-t18
+    cast-t19
     returns-3
     returns-4)

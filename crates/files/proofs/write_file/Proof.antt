@@ -1,6 +1,8 @@
 -- Each step's needs follow from what the steps before it left.
 mod Steps
+use Prim.Native.Nat.{_≤_}
 use mathlib.Core.Path.{_∙_}
+use native.Mathlib.Omega.{arith}
 use borrow.Author.Needs.{needs}
 use Rattle.files.proofs.write_file.Proof.Steps.{Grown, from-one, to-last, old-near, new-near, gap-housed, data-housed, wrote}
 use Rattle.files.proofs.write_file.Statement.{statement}
@@ -15,7 +17,7 @@ taken c =
       can = search needs;
       is-old = search needs;
       is-new = search needs;
-      is-next = c .take-blocks .ensures ∙ rw (c .before .before .before .places .ensures, c .before .places2 .ensures);
+      is-next = c .take-blocks .ensures ∙ rw (c .before .before .before .places .ensures, c .before .before .places2 .ensures);
     }
 
 file-record-requires : tie.Need-file-record-requires
@@ -31,16 +33,22 @@ larger-requires : tie.Need-larger-requires
 larger-requires c κs = search needs
 
 places-requires : tie.Need-places-requires
-places-requires c κs = search old-near
+places-requires c κs = let near : c .before .before .file-record .result .length ≤ 65536 = search old-near in omega arith
 
 places-requires-2 : tie.Need-places-requires-2
-places-requires-2 c κs = search new-near
+places-requires-2 c κs = let near : c .before .larger .result ≤ 65536 = search new-near in omega arith
 
-sub-take-blocks : tie.Need-sub-take-blocks
-sub-take-blocks c = search needs
+sub-more : tie.Need-sub-more
+sub-more c = search needs
+
+cast-take-blocks : tie.Need-cast-take-blocks
+cast-take-blocks c = let near : c .before .before .before .before .before .file-record .result .length ≤ 65536 = search old-near in omega arith
+
+cast-take-blocks-2 : tie.Need-cast-take-blocks-2
+cast-take-blocks-2 c = let near : c .before .before .before .larger .result ≤ 65536 = search new-near in omega arith
 
 take-blocks-requires : tie.Need-take-blocks-requires
-take-blocks-requires c κs = search needs
+take-blocks-requires c κs = let near : c .before .before .before .larger .result ≤ 65536 = search new-near in search needs
 
 beyond-requires : tie.Need-beyond-requires
 beyond-requires c κs = search needs
@@ -52,8 +60,8 @@ lay-run-requires : tie.Need-lay-run-requires
 lay-run-requires c κs =
     search (data-housed _ _ _ _ _ _ _ _ _ (taken (c .before .before .before .before .before .before .before .before .before .before)))
 
-cast-t31 : tie.Need-cast-t31
-cast-t31 c = search needs
+cast-t32 : tie.Need-cast-t32
+cast-t32 c = let near : c .before .before .before .before .before .before .before .before .before .before .before .before .before .before .before .before .before .before .larger .result ≤ 65536 = search new-near in omega arith
 
 put-file-record-requires : tie.Need-put-file-record-requires
 put-file-record-requires c κs = (search from-one, search to-last)
@@ -87,12 +95,14 @@ write-file-spec =
     larger-requires
     places-requires
     places-requires-2
-    sub-take-blocks
+    sub-more
+    cast-take-blocks
+    cast-take-blocks-2
     take-blocks-requires
     beyond-requires
     fill-gap-requires
     lay-run-requires
-    cast-t31
+    cast-t32
     put-file-record-requires
     same-length
     same-length-2

@@ -1,15 +1,14 @@
 -- A record within the directory takes no block; one at its end makes it 16 bytes longer.
-use Prim.Native.Nat.{ℕ, _+_, _-_, _*_, _/_, _≤_, _<_, max}
-use mathlib.Core.Path.{_≡_, refl, sym, ap, _∙_}
+use Prim.Native.Nat.{ℕ, _+_, _-_, _*_, _≤_, _<_, max}
+use mathlib.Core.Path.{_≡_, sym, _∙_}
 use mathlib.Core.List.{List}
-use mathlib.Core.Bool.{Bool, true, false}
+use mathlib.Core.Bool.{true}
 use native.Mathlib.Omega.{arith}
-use lib.Dec.{ltb}
 use borrow.Author.Needs.{needs}
 use borrow.Author.Tests.{lt-ltb, le-ltb}
 use Rattle.meaning.specs.File.{needed, longest}
 use Rattle.meaning.specs.Store.{isDirectory}
-use Rattle.meaning.specs.Tables.{fileCount, fileLength}
+use Rattle.meaning.specs.Tables.{fileLength}
 use Rattle.meaning.specs.Result.{unless}
 use Rattle.meaning.specs.declared.Report.the-variants.{NoRoom, TooBig}
 use Rattle.tables.specs.Read.{FileRead}
@@ -42,14 +41,15 @@ module _ (records files : List ℕ) (d i : ℕ) (is : isDirectory (filesStore fi
     unfolding ifFitsIn unless
     too-big h result = let e = its-size in rw (lt-ltb longest (max size (16 * i + 16)) (omega arith))
 
-    module _ (small : 16 * i + 16 ≤ 32768) (free : ℕ) (counted : free ≡ freeBlockCount records) where
-      no-room : free < (16 * i + 16 + 511) / 512 - (r .length + 511) / 512 → FitsIn (freeBlockCount records) size (max size (16 * i + 16)) (No NoRoom)
+    module _ (small : 16 * i + 16 ≤ 32768) (free : ℕ) (counted : free ≡ freeBlockCount records)
+        (all : ℕ) (is-all : all ≡ needed (16 * i + 16)) (had : ℕ) (is-had : had ≡ needed (r .length)) where
+      no-room : free < all - had → FitsIn (freeBlockCount records) size (max size (16 * i + 16)) (No NoRoom)
       unfolding ifFitsIn unless
       no-room h result =
           let e = its-size in
           rw (le-ltb longest (max size (16 * i + 16)) (omega arith), lt-ltb (freeBlockCount records) (needed (max size (16 * i + 16)) - needed size) (omega arith))
 
-      fits : (16 * i + 16 + 511) / 512 - (r .length + 511) / 512 ≤ free → FitsIn (freeBlockCount records) size (max size (16 * i + 16)) Fits
+      fits : all - had ≤ free → FitsIn (freeBlockCount records) size (max size (16 * i + 16)) Fits
       fits h = let e = its-size in (omega arith, omega arith)
 
 file-record-requires : tie.Need-file-record-requires
@@ -67,17 +67,20 @@ add-end c = search needs
 returns : tie.Need-returns
 returns c = search within
 
+cast-if2 : tie.Need-cast-if2
+cast-if2 c = search needs
+
 returns-2 : tie.Need-returns-2
 returns-2 c = search too-big
 
 count-free-blocks-requires : tie.Need-count-free-blocks-requires
 count-free-blocks-requires c κs = search needs
 
-add-if3 : tie.Need-add-if3
-add-if3 c = search needs
+places-requires : tie.Need-places-requires
+places-requires c κs = search needs
 
-add-if3-2 : tie.Need-add-if3-2
-add-if3-2 c = search needs
+places-requires-2 : tie.Need-places-requires-2
+places-requires-2 c κs = search needs
 
 sub-if3 : tie.Need-sub-if3
 sub-if3 c = search needs
@@ -97,10 +100,11 @@ record-fits-spec =
     mul-end
     add-end
     returns
+    cast-if2
     returns-2
     count-free-blocks-requires
-    add-if3
-    add-if3-2
+    places-requires
+    places-requires-2
     sub-if3
     returns-3
     returns-4)

@@ -1,6 +1,6 @@
 -- The block that is looked for is not passed, and it is one of the table's; the measure is how many blocks are left.
 use Prim.Native.Nat.{_-_, _≤_, _<_}
-use mathlib.Core.Path.{_≡_, sym, _∙_}
+use mathlib.Core.Path.{sym, _∙_}
 use native.Mathlib.Omega.{arith}
 use denote.Ref.{now}
 use Rattle.records.specs.Rows.{lowest}

@@ -10,14 +10,14 @@ add-if1 c = search needs
 returns : tie.Need-returns
 returns c = omega arith
 
-add-result : tie.Need-add-result
-add-result c = search needs
+add-places : tie.Need-add-places
+add-places c = search needs
 
-add-result-2 : tie.Need-add-result-2
-add-result-2 c = search needs
+places-requires : tie.Need-places-requires
+places-requires c κs = search needs
 
-add-result-3 : tie.Need-add-result-3
-add-result-3 c = search needs
+places-requires-2 : tie.Need-places-requires-2
+places-requires-2 c κs = search needs
 
 sub-result : tie.Need-sub-result
 sub-result c = search needs
@@ -26,4 +26,4 @@ returns-2 : tie.Need-returns-2
 returns-2 c = omega arith
 
 pub new-blocks-spec : {M : Type 1} → statement M
-new-blocks-spec = tie.close (tie.spec add-if1 returns add-result add-result-2 add-result-3 sub-result returns-2)
+new-blocks-spec = tie.close (tie.spec add-if1 returns add-places places-requires places-requires-2 sub-result returns-2)

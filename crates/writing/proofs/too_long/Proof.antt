@@ -13,8 +13,14 @@ use Rattle.writing.proofs.too_long.Tie as tie
 long-data : (at n : ℕ) → longest < n → true ≡ ltb longest (at + n)
 long-data at n h = sym (lt-ltb longest (at + n) (omega arith))
 
+cast-if1 : tie.Need-cast-if1
+cast-if1 c = search needs
+
 returns : tie.Need-returns
 returns c = search long-data
+
+cast-result : tie.Need-cast-result
+cast-result c = search needs
 
 add-result : tie.Need-add-result
 add-result c = search needs
@@ -23,4 +29,4 @@ returns-2 : tie.Need-returns-2
 returns-2 c = search needs
 
 pub too-long-spec : {M : Type 1} → statement M
-too-long-spec = tie.close (tie.spec returns add-result returns-2)
+too-long-spec = tie.close (tie.spec cast-if1 returns cast-result add-result returns-2)
