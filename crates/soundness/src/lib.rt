@@ -34,7 +34,7 @@ ghost use Rattle.meaning.specs.Store.{inUse, isDirectory};
 ghost use Rattle.meaning.specs.Tables.{tables, blockCount, fileCount, channelCount, fileLength};
 ghost use Rattle.meaning.specs.Sound.{lengthsAgree, blockSound, placedOnce, fileSound, filesSound, channelSound, channelsSound, recordSound, sound};
 ghost use Rattle.names.specs.RecordNames.{recordFrom};
-ghost use Rattle.soundness.specs.Rules.{countsTo, directoryForm, placedBelow, deeperThan, newAt, recordsAt, namesAt, deeperAt, Countable, Counted, isNamedBy, allNamedBy};
+ghost use Rattle.soundness.specs.Rules.{countsTo, directoryForm, placedBelow, deeperThan, newAt, recordsAt, namesAt, deeperAt, Countable, Counted, namedBy, allNamedBy};
 ghost use Rattle.soundness.specs.Seen.{filesStore, channelsStore, recordTables};
 ghost use Rattle.soundness.specs.Slots.{directoriesStore, Findable, Starts, slot, Placed, Within};
 ghost use Rattle.soundness.specs.RecordRules.{Filled};
@@ -715,9 +715,10 @@ pub fn count_names(blocks: &[u8], block_records: &[u8], file_records: &[u8]) -> 
     counts
 }
 
-// Whether file f has the names or the channel that it needs, where `count` records name it.
-fn is_named(file_records: &[u8], channel_records: &[u8], f: FileNo, count: u32) -> bool
-    ensures { λ r. ⌜ r ≡ isNamedBy (channelsStore (now («file_records» .entry)) (now («channel_records» .entry))) count (f .0) ⌝ }
+// Whether file f has the names or the channel that it needs, by the counts of names.
+fn is_named(file_records: &[u8], channel_records: &[u8], counts: &[u32; 65], f: FileNo) -> bool
+    requires { ⌜ f .0 ≤ 64 ⌝ }
+    ensures { λ r. ⌜ r ≡ namedBy (channelsStore (now («file_records» .entry)) (now («channel_records» .entry))) (now (counts .entry)) (f .0) ⌝ }
 {
     if f.0 == 1 {
         return true;
@@ -725,6 +726,8 @@ fn is_named(file_records: &[u8], channel_records: &[u8], f: FileNo, count: u32) 
     if !in_use(file_records, f) {
         return true;
     }
+    let k = f.0 as usize;
+    let count = counts[k];
     if is_directory(file_records, f) {
         return count == 1;
     }
@@ -742,12 +745,7 @@ fn all_named(file_records: &[u8], channel_records: &[u8], counts: &[u32; 65]) ->
     let last = file_records.len() / 8;
     let mut r: usize = 0;
     while r < last {
-        if !is_named(
-            file_records,
-            channel_records,
-            FileNo(r as u16 + 1),
-            counts[r + 1],
-        ) {
+        if !is_named(file_records, channel_records, counts, FileNo(r as u16 + 1)) {
             return false;
         }
         r += 1;

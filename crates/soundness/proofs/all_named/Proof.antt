@@ -3,11 +3,11 @@ use Prim.Native.Nat.{ℕ, suc, _-_, _/_, _≤_}
 use mathlib.Core.Path.{_≡_, refl, _∙_}
 use mathlib.Core.List.{List}
 use mathlib.Core.Bool.{Bool, true}
-use lib.ListN.{length, getD}
+use lib.ListN.{length}
 use Rattle.records.specs.Rows.{every}
 use Rattle.records.specs.LoopLaws.{every-start}
 use Rattle.meaning.specs.Tables.{storeOf}
-use Rattle.soundness.specs.Rules.{isNamedBy, namedBy, allNamedBy}
+use Rattle.soundness.specs.Rules.{namedBy, allNamedBy}
 use Rattle.soundness.specs.RuleLoops.{file-passed, file-failed, rules-passed}
 use Rattle.soundness.specs.Seen.{channelsStore}
 use borrow.Author.Needs.{needs}
@@ -20,10 +20,6 @@ rule files channels counts = namedBy (channelsStore files channels) counts
 all : (files channels counts : List ℕ) → every (length files / 8) (λ r. rule files channels counts (suc r)) ≡ allNamedBy (channelsStore files channels) counts
 unfolding allNamedBy storeOf
 all files channels counts = refl
-
-there : (files channels counts : List ℕ) (f : ℕ) (flag : Bool) → flag ≡ isNamedBy (channelsStore files channels) (getD counts f 0) f → flag ≡ rule files channels counts f
-unfolding namedBy
-there files channels counts f flag e = e
 
 abbrev Inv-loop : tie.InvT-loop
 Inv-loop file-records channel-records counts last r₀ r = (last ≡ length file-records / 8) × (r ≤ last) × (every r (λ i. rule file-records channel-records counts (suc i)) ≡ true)
@@ -40,20 +36,11 @@ cast-t8 c = search needs
 add-t9 : tie.Need-add-t9 Inv-loop μ-loop
 add-t9 c = search needs
 
-add-is-named : tie.Need-add-is-named Inv-loop μ-loop
-add-is-named c = search needs
-
-mul-is-named : tie.Need-mul-is-named Inv-loop μ-loop
-mul-is-named c = search needs
-
-element-copy-out-is-named : tie.Need-element-copy-out-is-named Inv-loop μ-loop
-element-copy-out-is-named c = search needs
-
 is-named-requires : tie.Need-is-named-requires Inv-loop μ-loop
 is-named-requires c κs = search needs
 
 returns : tie.Need-returns Inv-loop μ-loop
-returns c = file-failed (rule _ _ _) _ _ (there _ _ _ _ _ (c .before .is-named .ensures)) _ (search needs) (c .if1 .taken) ∙ all _ _ _
+returns c = file-failed (rule _ _ _) _ _ (c .before .is-named .ensures) _ (search needs) (c .if1 .taken) ∙ all _ _ _
 
 add-r : tie.Need-add-r Inv-loop μ-loop
 add-r c = search needs
@@ -62,7 +49,7 @@ loop-less : tie.Need-loop-less Inv-loop μ-loop
 loop-less c = search needs
 
 loop-again : tie.Need-loop-again Inv-loop μ-loop
-loop-again c = (refl, search needs, file-passed (rule _ _ _) _ _ (there _ _ _ _ _ (c .before .is-named .ensures)) (search needs) (c .if1 .left))
+loop-again c = (refl, search needs, file-passed (rule _ _ _) _ _ (c .before .is-named .ensures) (search needs) (c .if1 .left))
 
 returns-2 : tie.Need-returns-2 Inv-loop μ-loop
 returns-2 c = rules-passed (λ i. rule _ _ _ (suc i)) _ _ (search needs) (search needs) (c .before .loop .inv .2) ∙ all _ _ _
@@ -76,9 +63,6 @@ all-named-spec =
     loop-holds
     cast-t8
     add-t9
-    add-is-named
-    mul-is-named
-    element-copy-out-is-named
     is-named-requires
     returns
     add-r

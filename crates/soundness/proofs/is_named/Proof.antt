@@ -3,27 +3,31 @@ use mathlib.Core.Path.{_≡_, sym, _∙_}
 use mathlib.Core.List.{List, []}
 use mathlib.Core.Bool.{Bool, true, false, not, _&&_, _||_, or-true, or-false}
 use borrow.Author.Tests.{lt-ltb, le-ltb, eq-eqb, ne-eqb, not-true, not-false}
+use lib.ListN.{getD}
 use lib.Dec.{ltb, eqb}
 use Rattle.meaning.specs.Store.{inUse, isDirectory}
 use Rattle.meaning.specs.Tables.{tables}
 use Rattle.tables.specs.Searches.{channelsWith}
 use Rattle.tables.specs.StoreLaws.{held-channels}
-use Rattle.soundness.specs.Rules.{isNamedBy}
+use Rattle.soundness.specs.Rules.{isNamedBy, namedBy}
 use Rattle.soundness.specs.Seen.{filesStore, channelsStore, inUse-seen, isDirectory-seen}
 use borrow.Author.Needs.{needs}
 use Rattle.soundness.proofs.is_named.Statement.{statement}
 use Rattle.soundness.proofs.is_named.Tie as tie
 
-module _ (files channels : List ℕ) (f count : ℕ) where
+module _ (files channels counts : List ℕ) (f : ℕ) where
   abbrev verdict : Bool
-  verdict = isNamedBy (channelsStore files channels) count f
+  verdict = namedBy (channelsStore files channels) counts f
+
+  abbrev count : ℕ
+  count = getD counts f 0
 
   in-numbers : verdict ≡
       not (inUse (filesStore files) f)
       || eqb f 1
       || (isDirectory (filesStore files) f && eqb count 1)
       || (not (isDirectory (filesStore files) f) && (ltb 0 count || ltb 0 (channelsWith channels f)))
-  unfolding isNamedBy
+  unfolding namedBy isNamedBy
   in-numbers =
       rw (inUse-seen (tables [] [] files channels) f, isDirectory-seen (tables [] [] files channels) f, held-channels (tables [] [] files channels) f)
 
@@ -54,6 +58,15 @@ in-use-requires c κs = search needs
 returns-2 : tie.Need-returns-2
 returns-2 c = search free
 
+cast-k : tie.Need-cast-k
+cast-k c = search needs
+
+mul-count : tie.Need-mul-count
+mul-count c = search needs
+
+element-copy-out-count : tie.Need-element-copy-out-count
+element-copy-out-count c = search needs
+
 is-directory-requires : tie.Need-is-directory-requires
 is-directory-requires c κs = search needs
 
@@ -76,6 +89,9 @@ is-named-spec =
     returns
     in-use-requires
     returns-2
+    cast-k
+    mul-count
+    element-copy-out-count
     is-directory-requires
     returns-3
     returns-4
