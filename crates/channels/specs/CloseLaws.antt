@@ -1,16 +1,16 @@
 -- A channel closed: who holds its file then, and whether the file goes.
-use Prim.Native.Nat.{ℕ, _+_, _≤_, _<_}
+use Prim.Native.Nat.{ℕ, _+_, _<_}
 use mathlib.Core.Path.{_≡_, refl, ap, sym, _∙_}
 use mathlib.Core.Logic.{_≢_}
-use mathlib.Core.List.{List, [], _∷_}
-use mathlib.Core.Bool.{Bool, true, false, not, _&&_}
+use mathlib.Core.List.{[], _∷_}
+use mathlib.Core.Bool.{true, false, not, _&&_}
 use native.Mathlib.Omega.{arith}
-use lib.Dec.{ltb, eqb}
+use lib.Dec.{eqb}
 use borrow.Author.Tests.{lt-ltb, le-ltb, eq-eqb, ne-eqb}
 use Rattle.records.specs.Rows.{pick, tally, howMany}
 use Rattle.records.specs.RowLaws.{howMany-update}
 use Rattle.records.specs.Tests.{and-false}
-use Rattle.meaning.specs.Store.{Store, Change, file, channel, after, noFile, noChannel, inUse, isDirectory, names, held, isOrphan, letGo}
+use Rattle.meaning.specs.Store.{Store, file, channel, after, noFile, noChannel, inUse, isDirectory, names, held, isOrphan, letGo}
 
 -- how many channels hold file f
 abbrev pub holders : Store → ℕ → ℕ

@@ -1,13 +1,12 @@
 -- A call on a channel: the refusals that come before every other, and what is known where they do not come.
-use Prim.Native.Nat.{ℕ, _≤_, _<_}
-use mathlib.Core.Path.{_≡_, refl, ap, sym, subst, _∙_}
-use mathlib.Core.Bool.{Bool, true, false, not}
+use Prim.Native.Nat.{ℕ}
+use mathlib.Core.Path.{_≡_}
+use mathlib.Core.Bool.{true, not}
 use Rattle.meaning.specs.Store.{isOpen}
 use Rattle.meaning.specs.Tables.{Tables, storeOf}
 use Rattle.meaning.specs.Sound.{sound}
 use Rattle.meaning.specs.Result.{Result, refused, unless, onChannel}
-use Rattle.meaning.specs.declared.Report.{Report}
-use Rattle.meaning.specs.declared.Report.the-variants.{NotAStore, NoSuchCid}
+use Rattle.meaning.specs.declared.Report.the-variants.{NotAStore}
 use Rattle.tables.specs.declared.ChannelRecord.{ChannelRecord}
 use Rattle.channels.specs.declared.Held.{Held}
 use Rattle.channels.specs.declared.Held.the-variants.{Open, Refused}

@@ -1,26 +1,25 @@
 -- What a call on a channel goes by, once it has asked for what the channel holds.
-use Prim.Native.Nat.{ℕ, _+_, _-_, _*_, _≤_, _<_}
-use mathlib.Core.Path.{_≡_, refl, ap, sym, subst, _∙_}
+use Prim.Native.Nat.{ℕ, _-_, _≤_, _<_}
+use mathlib.Core.Path.{_≡_, ap, sym, subst, _∙_}
 use mathlib.Core.Logic.{_≢_}
-use mathlib.Core.List.{List, []}
-use mathlib.Core.Bool.{Bool, true, false, not, _&&_}
+use mathlib.Core.List.{List}
+use mathlib.Core.Bool.{true, false, not}
 use native.Mathlib.Omega.{arith}
 use lib.ListN.{length}
 use lib.Dec.{ltb, eqb}
-use borrow.Author.Tests.{ltb-true, lt-ltb, le-ltb, eq-eqb, ne-eqb, not-true, not-false}
-use Rattle.records.specs.Tests.{and-left, and-right, and-both}
+use borrow.Author.Tests.{ltb-true, lt-ltb, le-ltb, eq-eqb, ne-eqb}
+use Rattle.records.specs.Tests.{and-left}
 use Rattle.meaning.specs.Store.{isOpen}
-use Rattle.meaning.specs.Tables.{Tables, tables, storeOf, channelOf, fileCount, channelCount, kindAt, lengthAt, channelFileAt, positionAt}
+use Rattle.meaning.specs.Tables.{Tables, tables, storeOf, channelOf, fileCount, channelCount, kindAt, lengthAt, channelFileAt}
 use Rattle.meaning.specs.Sound.{sound}
 use Rattle.meaning.specs.ChannelCalls.{lastPosition}
-use Rattle.meaning.specs.Result.{Result, refused, done, unless, onChannel}
+use Rattle.meaning.specs.Result.{Result, refused, unless, onChannel}
 use Rattle.meaning.specs.declared.Report.{Report}
 use Rattle.meaning.specs.declared.Report.the-variants.{NotAStore, NoSuchCid}
 use Rattle.tables.specs.declared.ChannelRecord.{ChannelRecord}
 use Rattle.tables.specs.Read.{ChannelRead}
 use Rattle.tables.specs.StoreLaws.{store-kind, store-length}
 use Rattle.soundness.specs.Use.{Used}
-use Rattle.soundness.specs.Well.{OpenChannel}
 use Rattle.soundness.specs.WellFacts.{open-channel, held-used}
 use Rattle.lookup.specs.Filed.{sound-well}
 use Rattle.channels.specs.Held.{heldOr, onChannelOf, Holds, HoldsIn, OnChannel}

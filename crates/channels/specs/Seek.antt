@@ -1,7 +1,7 @@
 -- Seek: what its decision stands for.
 use Prim.Native.Nat.{ℕ, _<_}
 use mathlib.Core.Path.{_≡_}
-use mathlib.Core.List.{List, [], _∷_}
+use mathlib.Core.List.{[], _∷_}
 use Rattle.meaning.specs.Store.{channel, channelTo}
 use Rattle.meaning.specs.Tables.{Tables, channelCount}
 use Rattle.meaning.specs.Result.{Result, refused, done}

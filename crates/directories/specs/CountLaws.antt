@@ -1,9 +1,9 @@
 -- How many records name a file, and how many are not blank, where one record of a directory is written anew or added.
-use Prim.Native.Nat.{ℕ, suc, _+_, _-_, _*_, _/_, _≤_, _<_, max}
+use Prim.Native.Nat.{ℕ, suc, _+_, _-_, _*_, _≤_, _<_, max}
 use mathlib.Core.Path.{_≡_, refl, ap, sym, _∙_}
 use mathlib.Core.Logic.{_≢_, ⊎-elim}
 use mathlib.Core.List.{List}
-use mathlib.Core.Bool.{Bool, true, false, not}
+use mathlib.Core.Bool.{Bool, false}
 use native.Mathlib.Omega.{arith}
 use lib.ListN.{length}
 use lib.Dec.{eqb}
@@ -11,10 +11,10 @@ use borrow.Author.Tests.{ne-eqb}
 use Rattle.records.specs.Rows.{tally, howMany, sum}
 use Rattle.records.specs.RowLaws.{howMany-cong, howMany-update}
 use Rattle.records.specs.Tests.{lt-or-ge}
-use Rattle.records.specs.Numbers.{one, two, zeros}
-use Rattle.meaning.specs.Name.{Entry, entryIn, recordCount, recordAt, isBlank, entryAt, namesIn, nameCount, isEmpty, withEntry}
+use Rattle.records.specs.Numbers.{one, two}
+use Rattle.meaning.specs.Name.{Entry, entryIn, recordCount, recordAt, entryAt, namesIn, withEntry}
 use Rattle.meaning.specs.FileLaws.{byte-past}
-use Rattle.directories.specs.EntryLaws.{length-record, count-with, entry-same, entry-other, blank-same, blank-other}
+use Rattle.directories.specs.EntryLaws.{length-record, count-with, entry-same, entry-other}
 
 -- a record past the end names no file
 pub past-file : (dir : List ℕ) (i : ℕ) → length dir ≤ 16 * i → entryAt dir i .file ≡ 0

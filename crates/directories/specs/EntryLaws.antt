@@ -1,20 +1,16 @@
 -- A directory with one record written anew or added at its end: every other record is as it was.
-use Prim.Native.Nat.{ℕ, suc, _+_, _-_, _*_, _/_, _≤_, _<_, min, max}
-use mathlib.Core.Path.{_≡_, refl, ap, sym, _∙_}
+use Prim.Native.Nat.{ℕ, suc, _+_, _-_, _*_, _≤_, _<_, min, max}
+use mathlib.Core.Path.{_≡_, ap, sym, _∙_}
 use mathlib.Core.Logic.{_≢_, ⊎-elim}
 use mathlib.Core.List.{List}
-use mathlib.Core.Bool.{Bool, true, false, not}
 use native.Mathlib.Omega.{arith}
 use lib.ListN.{length, getD, drop, length-take, length-drop}
 use lib.Seq.{getD-drop, getD-take, ext-getD}
-use lib.Dec.{eqb}
-use Rattle.records.specs.Rows.{tally, howMany, every}
-use Rattle.records.specs.RowLaws.{howMany-cong, howMany-update}
 use Rattle.records.specs.Tests.{lt-or-ge}
 use Rattle.records.specs.Numbers.{zeros}
 use Rattle.records.specs.NumberLaws.{zeros-cong}
 use Rattle.meaning.specs.FileLaws.{length-write, byte-data, byte-before, byte-after}
-use Rattle.meaning.specs.Name.{Entry, entryIn, recordCount, recordAt, isBlank, entryAt, namesIn, withEntry}
+use Rattle.meaning.specs.Name.{entryIn, recordCount, recordAt, isBlank, entryAt, withEntry}
 
 -- ---- a record of a directory, byte by byte
 

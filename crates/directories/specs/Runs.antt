@@ -1,12 +1,12 @@
 -- Records in runs of 32, a block at a time: a search and a count over them, as a loop over blocks meets them.
-use Prim.Native.Nat.{ℕ, zero, suc, _+_, _-_, _*_, _≤_, _<_, min}
-use mathlib.Core.Path.{_≡_, refl, ap, sym, _∙_}
+use Prim.Native.Nat.{ℕ, _+_, _-_, _*_, _≤_, _<_, min}
+use mathlib.Core.Path.{_≡_, sym, _∙_}
 use mathlib.Core.Logic.{⊎-elim}
 use mathlib.Core.Bool.{Bool, true, false, true≢false}
 use native.Mathlib.Omega.{arith}
-use Rattle.records.specs.Rows.{lowest, lowestFrom, howMany, sum, tally}
-use Rattle.records.specs.RowLaws.{Found, from-found, lowest-within, lowest-hit, lowest-misses}
-use Rattle.records.specs.Tests.{lt-or-ge, le-or-gt}
+use Rattle.records.specs.Rows.{lowest, lowestFrom}
+use Rattle.records.specs.RowLaws.{Found, from-found, lowest-hit, lowest-misses}
+use Rattle.records.specs.Tests.{lt-or-ge}
 
 -- what is found from i on among n is one index
 pub found-is : (i n : ℕ) (p : ℕ → Bool) (r : ℕ) → Found i n p r → lowestFrom i n p ≡ r

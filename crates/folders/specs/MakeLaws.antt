@@ -2,17 +2,13 @@
 use Prim.Native.Nat.{ℕ, _-_, _≤_}
 use mathlib.Core.Path.{_≡_, sym, ap, subst, _∙_}
 use mathlib.Core.List.{List, [], _∷_}
-use mathlib.Core.Bool.{Bool, true, false}
+use mathlib.Core.Bool.{false}
 use native.Mathlib.Omega.{arith}
-use lib.Dec.{ltb}
-use Rattle.meaning.specs.File.{needed, longest}
 use Rattle.meaning.specs.Store.{Store, file, directory}
 use Rattle.meaning.specs.Tables.{Tables, storeOf, depthAt}
-use Rattle.meaning.specs.Result.{Result, refused, done, unless, nowhere}
+use Rattle.meaning.specs.Result.{done, unless, nowhere}
 use Rattle.meaning.specs.NameCalls.{parent, recordFor, rewritten, mkdir}
 use Rattle.meaning.specs.Run.{Call, resultOf, meaning, accepts}
-use Rattle.meaning.specs.declared.Report.{Report}
-use Rattle.meaning.specs.declared.Report.the-variants.{NoRoom, TooBig}
 use Rattle.tables.specs.StoreLaws.{store-depth}
 use Rattle.soundness.specs.Use.{directory-used}
 use Rattle.soundness.specs.Well.{Well}
@@ -23,7 +19,6 @@ use Rattle.keeping.specs.NewFiles.{good-mkdir}
 use Rattle.naming.specs.At.{At}
 use Rattle.naming.specs.declared.Located.{Located}
 use Rattle.recording.specs.Recording.{recordOf}
-use Rattle.recording.specs.Fit.{ifFitsIn}
 use Rattle.recording.specs.NameRecord.{start-within, part-spelled}
 use Rattle.placing.specs.Free.{sized}
 use Rattle.placing.specs.NewName.{vacancy, more, in-directory, few-records}

@@ -12,7 +12,7 @@ use borrow.Author.Tests.{eq-eqb, ne-eqb}
 use Rattle.records.specs.Tests.{same-or-not, and-false, and-left}
 use Rattle.meaning.specs.Name.{syllables, entry, written}
 use Rattle.meaning.specs.Store.{Store, File, file, inUse, isDirectory, named, names, held, isOrphan, letGo, last}
-use Rattle.meaning.specs.Tables.{Tables, tables, storeOf, fileCount}
+use Rattle.meaning.specs.Tables.{Tables, storeOf, fileCount}
 use Rattle.meaning.specs.Sound.{sound}
 use Rattle.meaning.specs.Result.{done, unless}
 use Rattle.meaning.specs.NameCalls.{parent, rewritten, naming}

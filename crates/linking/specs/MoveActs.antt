@@ -6,7 +6,7 @@ use mathlib.Core.Bool.{Bool, true, false, not}
 use native.Mathlib.Omega.{arith}
 use Rattle.meaning.specs.Name.{blankRecord}
 use Rattle.meaning.specs.Store.{Store, File, Change, file, afterAll, isDirectory, named, isOrphan, letGo}
-use Rattle.meaning.specs.Tables.{Tables, tables, storeOf, fileCount, put, putAll}
+use Rattle.meaning.specs.Tables.{Tables, storeOf, fileCount, put, putAll}
 use Rattle.meaning.specs.Sound.{sound}
 use Rattle.meaning.specs.Result.{Result, refused, done, unless}
 use Rattle.meaning.specs.NameCalls.{parent, recordFor, rewritten, unnaming, link, unlink, move, andThen, withChanges}

@@ -9,7 +9,7 @@ use lib.ListN.{length}
 use Rattle.records.specs.Tests.{same-or-not}
 use mathlib.Core.Option as O
 use Rattle.meaning.specs.Name.{syllables, Entry, entry, written, recordCount, entryAt, withEntry}
-use Rattle.meaning.specs.Store.{Store, File, file, after, afterAll, isDirectory, named, last}
+use Rattle.meaning.specs.Store.{Store, File, file, afterAll, isDirectory, named, last}
 use Rattle.meaning.specs.Tables.{Tables, storeOf}
 use Rattle.meaning.specs.Result.{missing}
 use Rattle.meaning.specs.NameCalls.{parent, recordFor, naming}

@@ -5,7 +5,7 @@ use mathlib.Core.Bool.{_||_}
 use lib.ListN.{length, getD}
 use lib.Dec.{ltb, eqb}
 use Rattle.meaning.specs.File.{readFILE, writeFILE}
-use Rattle.meaning.specs.Store.{Store, Channel, Change, file, channel, after, noChannel, channelTo, ordinary, freeBlocks, freeFiles, freeChannels, letGo}
+use Rattle.meaning.specs.Store.{Store, file, channel, after, noChannel, channelTo, ordinary, freeBlocks, freeFiles, freeChannels, letGo}
 use Rattle.meaning.specs.Result.{Result, done, unless, onChannel, ifFits}
 use Rattle.meaning.specs.declared.Report.the-variants.{IsDirectory, BadSeek}
 

@@ -9,7 +9,6 @@ use Rattle.records.specs.Rows.{pick}
 use Rattle.meaning.specs.File.{readFILE, writeFILE, needed}
 use Rattle.meaning.specs.Name.{syllables, same, entry, written}
 use Rattle.meaning.specs.Store.{Store, afterAll, noFile, directory, ordinary, channelTo, noChannel}
-use Rattle.meaning.specs.Result.{Result}
 use Rattle.meaning.specs.Run.{Call, Open, Seek, Write, meaning, width, answerOf, changesOf}
 use Rattle.meaning.specs.Running.{wrongFrom}
 use Rattle.meaning.specs.Text.{text}

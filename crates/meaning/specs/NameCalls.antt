@@ -1,5 +1,5 @@
 -- The calls on names (01, "Reports" and "What each call does").
-use Prim.Native.Nat.{ℕ, suc, _+_, _*_}
+use Prim.Native.Nat.{ℕ, _+_, _*_}
 use mathlib.Core.List.{List, [], _∷_, _++_}
 use mathlib.Core.Bool.{not, _||_}
 use lib.ListN.{length}

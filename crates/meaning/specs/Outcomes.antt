@@ -7,12 +7,6 @@ use Rattle.meaning.specs.Tables.{Tables}
 use Rattle.meaning.specs.Run.{Call, Prepare, Room, Create, Open, Unlink, Mkdir, Rmdir, Link, Move, Ls, Close, Fstat, Read, Write, Seek, Answer, Outcome, Promise}
 use Rattle.meaning.specs.Determined.{same-outcome}
 use Rattle.meaning.specs.Answers.{reported, opened, counted, sought, statOf, spaceOf, reported-one, opened-one, counted-one, sought-one, stat-one, space-one}
-use Rattle.meaning.specs.declared.Report.{Report}
-use Rattle.meaning.specs.declared.Opened.{Opened}
-use Rattle.meaning.specs.declared.Counted.{Counted}
-use Rattle.meaning.specs.declared.Sought.{Sought}
-use Rattle.meaning.specs.declared.Stat.{Stat}
-use Rattle.meaning.specs.declared.Space.{Space}
 
 -- what a run of a call leaves to be seen, its answer as the code gives it
 pub record Seen (A : Type 0) : Type 0 where

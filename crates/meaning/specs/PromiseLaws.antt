@@ -1,7 +1,7 @@
 -- How a promise is met: by a refusal that leaves all as it was, or by the changes of an accepted call.
 use Prim.Native.Nat.{ℕ}
-use mathlib.Core.Path.{_≡_, refl, ap, sym, _∙_}
-use mathlib.Core.List.{List, [], _∷_}
+use mathlib.Core.Path.{_≡_, refl, ap, _∙_}
+use mathlib.Core.List.{List}
 use Rattle.meaning.specs.File.{over}
 use Rattle.meaning.specs.Store.{Change}
 use Rattle.meaning.specs.Result.{Result, refused, done}

@@ -1,7 +1,6 @@
 -- The definitions run on sessions: 01's own, then one or more for every call and every report.
-use Prim.Native.Nat.{ℕ}
 use mathlib.Core.Path.{_≡_, refl}
-use mathlib.Core.List.{List, [], _∷_}
+use mathlib.Core.List.{[], _∷_}
 use Rattle.meaning.specs.Run.{Prepare, Room, Create, Open, Unlink, Mkdir, Rmdir, Link, Move, Ls, Close, Fstat, Read, Write, Seek}
 use Rattle.meaning.specs.Running.{step, zeroed, wrong}
 use Rattle.meaning.specs.Text.{text}

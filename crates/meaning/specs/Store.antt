@@ -1,5 +1,5 @@
 -- The store: files and channels by number (the source, 4.3.3 to 4.3.12). Nothing here says where blocks lie.
-use Prim.Native.Nat.{ℕ, zero, suc, _+_, _-_}
+use Prim.Native.Nat.{ℕ, suc, _-_}
 use mathlib.Core.List.{List, [], _∷_, reverse}
 use mathlib.Core.Bool.{Bool, not, _&&_}
 use lib.ListN.{length, take, getD}

@@ -1,15 +1,14 @@
 -- A name of a sound store, judged and located: what the calls on names go by.
 use Prim.Native.Nat.{ℕ}
-use mathlib.Core.Path.{_≡_, refl, ap, sym, _∙_}
+use mathlib.Core.Path.{_≡_, ap, sym, _∙_}
 use mathlib.Core.Logic.{_≢_}
 use mathlib.Core.List.{List}
-use mathlib.Core.Bool.{Bool, true, false, not, _&&_}
+use mathlib.Core.Bool.{Bool, true, false}
 use mathlib.Core.Option.{some}
 use lib.ListN.{length}
-use lib.Dec.{eqb}
 use borrow.Author.Tests.{eq-eqb, ne-eqb}
 use Rattle.meaning.specs.Name.{syllables}
-use Rattle.meaning.specs.Store.{Store, root, isDirectory, named, front}
+use Rattle.meaning.specs.Store.{root, isDirectory, named, front}
 use Rattle.meaning.specs.Tables.{Tables, tables, storeOf}
 use Rattle.meaning.specs.Sound.{sound}
 use Rattle.meaning.specs.Result.{Result, unless, withSyllables, missing, nowhere}

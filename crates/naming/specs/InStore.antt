@@ -1,27 +1,20 @@
 -- A located name's record, found in three tables, is its record in the store; and what is refused before it is located.
 use Prim.Native.Nat.{ℕ}
-use mathlib.Core.Path.{_≡_, refl, ap, sym, _∙_}
+use mathlib.Core.Path.{_≡_, sym, _∙_}
 use mathlib.Core.Logic.{_≢_}
-use mathlib.Core.List.{List, []}
-use mathlib.Core.Bool.{Bool, true, false, not}
-use mathlib.Core.Option.{Option, none, some}
-use lib.Dec.{eqb}
-use Rattle.records.specs.Rows.{pick}
-use Rattle.meaning.specs.Name.{syllables, recordNamed, recordForNew}
-use Rattle.meaning.specs.Store.{Store, isDirectory, named, front, last}
+use mathlib.Core.List.{List}
+use mathlib.Core.Bool.{true}
+use Rattle.meaning.specs.Store.{isDirectory, named, front}
 use Rattle.meaning.specs.Tables.{Tables, tables, storeOf}
-use Rattle.meaning.specs.Sound.{sound}
-use Rattle.meaning.specs.Result.{Result, refused, unless, withSyllables, missing}
+use Rattle.meaning.specs.Result.{missing}
 use Rattle.meaning.specs.NameCalls.{parent, recordFor}
-use Rattle.meaning.specs.declared.Report.{Report}
-use Rattle.meaning.specs.declared.Report.the-variants.{NotAStore, BadName}
 use Rattle.lookup.specs.Filed.{filed, bytes-seen, directory-seen}
-use Rattle.naming.specs.Judged.{OnName, onNameOf, refuses}
+use Rattle.naming.specs.Judged.{OnName}
 use Rattle.naming.specs.Located.{Locates, InPlace, Recorded}
 use Rattle.naming.specs.At.{At, named-seen, located-shelves, located-counted}
 use Rattle.naming.specs.declared.Located.{Located}
 use Rattle.naming.specs.declared.Judged.{Judged}
-use Rattle.naming.specs.declared.Judged.the-variants.{Syllables, Refused}
+use Rattle.naming.specs.declared.Judged.the-variants.{Syllables}
 
 module _ (b br fr cr : List ℕ) where
   abbrev t : Tables

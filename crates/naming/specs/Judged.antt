@@ -1,9 +1,8 @@
 -- A call on a name: the refusals that come before every other, and what is known where they do not come.
 use Prim.Native.Nat.{ℕ}
-use mathlib.Core.Path.{_≡_, refl, ap, sym, subst, _∙_}
+use mathlib.Core.Path.{_≡_, subst}
 use mathlib.Core.List.{List}
-use mathlib.Core.Bool.{Bool, true, false, not}
-use mathlib.Core.Option.{Option, none, some}
+use mathlib.Core.Bool.{true, false, not}
 use Rattle.meaning.specs.Name.{syllables}
 use Rattle.meaning.specs.Tables.{Tables}
 use Rattle.meaning.specs.Sound.{sound}

@@ -1,16 +1,15 @@
 -- A name located, and its record found, step by step.
-use Prim.Native.Nat.{ℕ, zero, suc, _+_, _-_, _*_, _/_, _≤_, _<_}
-use mathlib.Core.Path.{_≡_, refl, ap, sym, subst, _∙_}
+use Prim.Native.Nat.{ℕ, _-_, _/_, _≤_}
+use mathlib.Core.Path.{_≡_, refl, ap, sym, _∙_}
 use mathlib.Core.Logic.{_≢_}
 use mathlib.Core.List.{List, [], _∷_}
-use mathlib.Core.Bool.{Bool, true, false}
-use mathlib.Core.Option.{Option, none, some}
+use mathlib.Core.Bool.{true}
+use mathlib.Core.Option.{Option, some}
 use native.Mathlib.Omega.{arith}
 use lib.ListN.{length, take, drop, length-drop}
 use lib.Seq.{take-all}
-use lib.Dec.{eqb}
 use borrow.Author.Tests.{eq-eqb, ne-eqb}
-use Rattle.meaning.specs.Name.{syllables, recordNamed, recordForNew}
+use Rattle.meaning.specs.Name.{syllables}
 use Rattle.meaning.specs.Store.{Store, root, within, named, namedBack, isDirectory, front, last}
 use Rattle.meaning.specs.Result.{missing}
 use Rattle.meaning.specs.NameCalls.{parent, recordFor}
@@ -22,7 +21,7 @@ use Rattle.names.specs.LastSyllable.{last-within, last-is, front-is}
 use Rattle.soundness.specs.Seen.{filesStore}
 use Rattle.directories.specs.Find.{placeLowest, namedAt, blankAt}
 use Rattle.lookup.specs.Walk.{walk, named-walk, named-last}
-use Rattle.lookup.specs.Filed.{filed, Shelves, directory-here}
+use Rattle.lookup.specs.Filed.{filed, directory-here}
 use Rattle.lookup.specs.LookLaws.{is-named, is-blank}
 use Rattle.naming.specs.Located.{Locates, InPlace, Recorded}
 use Rattle.naming.specs.declared.Located.{Located}

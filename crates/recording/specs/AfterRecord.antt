@@ -1,6 +1,6 @@
 -- Tables after a record was written into a directory: any of their files can be cleared.
-use Prim.Native.Nat.{ℕ, _/_, _≤_, _<_}
-use mathlib.Core.Path.{_≡_, refl, ap, sym, subst, _∙_}
+use Prim.Native.Nat.{ℕ, _≤_, _<_}
+use mathlib.Core.Path.{_≡_, ap, sym, subst, _∙_}
 use mathlib.Core.List.{List}
 use Rattle.meaning.specs.Store.{Store, file}
 use Rattle.meaning.specs.NameCalls.{rewritten}

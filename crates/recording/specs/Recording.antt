@@ -1,5 +1,5 @@
 -- A record written into a directory: what the code asks and promises. Channel records lie beside and play no part.
-use Prim.Native.Nat.{ℕ, _*_}
+use Prim.Native.Nat.{ℕ}
 use mathlib.Core.Path.{_≡_}
 use mathlib.Core.List.{List}
 use mathlib.Core.Bool.{true}

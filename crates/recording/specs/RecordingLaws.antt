@@ -1,13 +1,13 @@
 -- A directory with a record written is the file with 16 bytes written into it.
 use Prim.Native.Nat.{ℕ, _+_, _-_, _*_, _≤_}
-use mathlib.Core.Path.{_≡_, refl, ap, sym, subst, _∙_}
+use mathlib.Core.Path.{_≡_, ap, sym, subst, _∙_}
 use mathlib.Core.List.{List, [], _++_, append-nil}
 use mathlib.Core.Bool.{true}
 use native.Mathlib.Omega.{arith}
 use lib.ListN.{length, drop, replicate, drop-of-length-le}
 use lib.Seq.{sets, sets-eq}
 use Rattle.meaning.specs.Name.{entry, written, withEntry, isSyllable}
-use Rattle.meaning.specs.Store.{Store, File, Change, file, isDirectory}
+use Rattle.meaning.specs.Store.{Store, File, file, isDirectory}
 use Rattle.meaning.specs.NameCalls.{rewritten}
 use Rattle.meaning.specs.Tables.{Tables, tables, storeOf, put}
 use Rattle.layout.specs.Fits.{FileFits}
@@ -16,7 +16,7 @@ use Rattle.names.specs.SyllableLaws.{length-part}
 use Rattle.names.specs.SyllableTests.{syllable-short}
 use Rattle.names.specs.RecordLaws.{length-written}
 use Rattle.soundness.specs.Use.{directory-kind}
-use Rattle.lookup.specs.Filed.{filed, directory-seen}
+use Rattle.lookup.specs.Filed.{directory-seen}
 use Rattle.files.specs.Files.{withWrite, Writable}
 use Rattle.recording.specs.Recording.{Rewritable, recordOf}
 

@@ -5,8 +5,7 @@ use mathlib.Core.List.{List}
 use mathlib.Core.Option.{Option, none, some}
 use Rattle.meaning.specs.Run.{Call}
 use Rattle.text.specs.Line.{lentBytes}
-use Rattle.text.specs.Commands.{part, commanded, Within, Spans, Reads}
-use Rattle.text.specs.declared.Span.{Span}
+use Rattle.text.specs.Commands.{part, commanded, Within}
 use Rattle.text.specs.declared.Command.{Command}
 use Rattle.text.specs.declared.Command.the-variants as C
 use Rattle.serving.specs.declared.Plain.{Plain}

@@ -4,7 +4,7 @@ use mathlib.Core.Path.{_≡_, refl, sym, subst}
 use mathlib.Core.Bool.{Bool, true, false}
 use mathlib.Core.List.{List}
 use native.Mathlib.Omega.{arith}
-use lib.ListN.{length, take, replicate, length-replicate}
+use lib.ListN.{take, replicate, length-replicate}
 use Rattle.text.specs.Line.{longestLine, asked}
 use Rattle.text.specs.Commands.{Reads}
 use Rattle.text.specs.Gathering.{Kept, Pends}

@@ -1,10 +1,8 @@
 -- A promise that is kept and an answer that is printed: the call is served.
-use Prim.Native.Nat.{ℕ, _+_, _*_, _≤_}
-use mathlib.Core.Path.{_≡_, refl, sym, ap, subst, _∙_}
+use Prim.Native.Nat.{ℕ, _+_}
+use mathlib.Core.Path.{_≡_, refl, sym, ap, _∙_}
 use mathlib.Core.List.{List, [], _∷_, _++_}
-use mathlib.Core.Option.{Option, none, some}
-use native.Mathlib.Omega.{arith}
-use lib.ListN.{length, take, drop}
+use mathlib.Core.Option.{none, some}
 use Rattle.meaning.specs.Tables.{Tables}
 use Rattle.meaning.specs.File.{over}
 use Rattle.meaning.specs.Run.{Call, width, Answer, Promise, resultOf, answerOf, bytesOf}

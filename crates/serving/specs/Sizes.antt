@@ -1,24 +1,24 @@
 -- read gives so many bytes as it answers, and ls 14 for each name; no more than are lent.
-use Prim.Native.Nat.{ℕ, zero, suc, _+_, _*_, _/_, _≤_, _<_}
-use mathlib.Core.Path.{_≡_, refl, sym, ap, subst, _∙_}
+use Prim.Native.Nat.{ℕ, zero, suc, _+_, _*_, _≤_}
+use mathlib.Core.Path.{_≡_, refl, ap, _∙_}
 use mathlib.Core.Bool.{Bool, true, false, not}
 use mathlib.Core.Option.{Option, none, some}
-use mathlib.Core.List.{List, [], _∷_, _++_}
+use mathlib.Core.List.{List, [], _∷_}
 use native.Mathlib.Omega.{arith}
-use lib.ListN.{length, take, drop, length-append, length-take, length-drop}
+use lib.ListN.{length, drop, length-append, length-take, length-drop}
 use lib.Dec.{ltb}
 use borrow.Author.Tests.{ltb-false}
 use Rattle.records.specs.Rows.{pick, sum, howMany, tally}
 use Rattle.meaning.specs.File.{readFILE}
 use Rattle.meaning.specs.Name.{syllables, recordAt, recordCount, isBlank, nameCount, namesFrom, listing}
-use Rattle.meaning.specs.Store.{Store, named, isDirectory, isOpen}
+use Rattle.meaning.specs.Store.{named, isDirectory, isOpen}
 use Rattle.meaning.specs.Tables.{Tables, storeOf}
 use Rattle.meaning.specs.ChannelCalls.{read}
 use Rattle.meaning.specs.NameCalls.{ls}
-use Rattle.meaning.specs.Result.{Result, refused, done, unless, onChannel, withSyllables, missing}
+use Rattle.meaning.specs.Result.{done, unless, onChannel, withSyllables, missing}
 use Rattle.meaning.specs.Run.{Call, meaning, accepts, resultOf}
 use Rattle.meaning.specs.declared.Report.the-variants.{NotAStore, NoSuchCid, NoSuchName, NotDirectory, OutShort}
-use Rattle.serving.specs.Shown.{Counts, Sized, sized-unless}
+use Rattle.serving.specs.Shown.{Sized, sized-unless}
 
 read-size : (file : List ℕ) (posn count : ℕ) → length (readFILE file posn count) ≤ count
 unfolding readFILE

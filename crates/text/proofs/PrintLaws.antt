@@ -1,13 +1,11 @@
 -- Laws of what is printed, as the code meets them: numbers and hex one behind another, and a line's end.
 use Prim.Native.Nat.{ℕ, _+_, _*_, _≤_, _<_}
-use mathlib.Core.Path.{_≡_, refl, _∙_}
+use mathlib.Core.Path.{_≡_, refl}
 use mathlib.Core.List.{List, [], _∷_, _++_, append-nil}
-use mathlib.Core.Bool.{Bool, true, false}
 use native.Mathlib.Omega.{arith}
 use native.Mathlib.Numerals.{add-one}
 use lib.ListN.{length, take, getD}
 use lib.Seq.{take-suc, take-all}
-use lib.Dec.{eqb}
 use Rattle.meaning.specs.Run.{Answer, accepted, refusal, numberOf}
 use Rattle.meaning.specs.Answers.{reported}
 use Rattle.meaning.specs.declared.Report.{Report}

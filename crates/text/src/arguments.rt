@@ -9,7 +9,7 @@ ghost use mathlib.Core.Path.{_≡_};
 ghost use lib.ListN.{length};
 ghost use lib.Dec.{ltb};
 ghost use Rattle.records.specs.Rows.{pick};
-ghost use Rattle.text.specs.Line.{aName, twoNames, lastNumber, number, reading, theData, aNumber};
+ghost use Rattle.text.specs.Line.{aName, twoNames, lastNumber, number};
 ghost use Rattle.text.specs.Commands.{restAt, Reads};
 ghost use Rattle.text.specs.Words.{nameCall, pairCall, numberCall, nameCommand, pairCommand, numberCommand, toRead, toWrite, toSeek};
 ghost use Rattle.text.specs.Arguments.{Argued, numbered, Counts};

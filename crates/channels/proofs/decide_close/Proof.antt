@@ -1,13 +1,13 @@
 -- Each return is a case of whether the file is an orphan once its channel is closed, by the tests that led there.
-use Prim.Native.Nat.{ℕ, _-_, _≤_, _<_}
+use Prim.Native.Nat.{ℕ, _-_, _<_}
 use mathlib.Core.Path.{_≡_, refl, sym, ap, _∙_}
 use mathlib.Core.Logic.{_≢_}
 use mathlib.Core.List.{List, [], _∷_}
 use mathlib.Core.Bool.{true}
 use native.Mathlib.Omega.{arith}
 use borrow.Author.Needs.{needs}
-use Rattle.meaning.specs.Store.{Store, file, channel, noFile, noChannel, inUse, names, letGo}
-use Rattle.meaning.specs.Tables.{Tables, tables, storeOf, channelOf, fileCount, channelCount}
+use Rattle.meaning.specs.Store.{file, channel, noChannel, inUse, names, letGo}
+use Rattle.meaning.specs.Tables.{Tables, tables, storeOf, channelOf, channelCount}
 use Rattle.meaning.specs.ChannelCalls.{close}
 use Rattle.meaning.specs.Result.{Result, done}
 use Rattle.meaning.specs.Run.{Call, resultOf, meaning, accepts}

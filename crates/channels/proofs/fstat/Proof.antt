@@ -1,12 +1,12 @@
 -- A refusal leaves all as it was; else the file's record says length and kind.
-use Prim.Native.Nat.{ℕ, _+_, _-_, _*_, _≤_, _<_}
-use mathlib.Core.Path.{_≡_, refl, sym, ap, subst, _∙_}
-use mathlib.Core.List.{List, [], _∷_}
+use Prim.Native.Nat.{ℕ, _-_}
+use mathlib.Core.Path.{_≡_, refl, sym, _∙_}
+use mathlib.Core.List.{[], _∷_}
 use borrow.Author.Needs.{needs}
 use lib.ListN.{length}
 use Rattle.meaning.specs.Tables.{Tables, storeOf, putAll}
 use Rattle.meaning.specs.ChannelCalls.{fstat}
-use Rattle.meaning.specs.Result.{Result, refused, done}
+use Rattle.meaning.specs.Result.{Result, done}
 use Rattle.meaning.specs.Run.{Call, resultOf, meaning, accepts, Promise, refusal, accepted}
 use Rattle.meaning.specs.PromiseLaws.{kept-refusal, kept-done}
 use Rattle.meaning.specs.declared.Report.{Report}

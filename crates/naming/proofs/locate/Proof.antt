@@ -1,12 +1,7 @@
 -- The root has no syllable; else the directory is looked up by all syllables but the last, and the file there by the last.
-use Prim.Native.Nat.{ℕ, _+_, _-_, _*_, _/_, _≤_, _<_}
-use mathlib.Core.Path.{_≡_, refl, sym, ap, subst, _∙_}
-use mathlib.Core.Logic.{_≢_}
-use mathlib.Core.List.{List, [], _∷_}
-use mathlib.Core.Bool.{Bool, true, false, not}
+use Prim.Native.Nat.{_-_}
 use native.Mathlib.Omega.{arith}
 use borrow.Author.Needs.{needs}
-use lib.ListN.{length}
 use Rattle.naming.specs.LocateLaws.{reaches-front, last-inside, at-root, at-last}
 use Rattle.naming.proofs.locate.Statement.{statement}
 use Rattle.naming.proofs.locate.Tie as tie

@@ -1,12 +1,7 @@
 -- A name that stands for nothing goes to the first blank record; another has its own.
-use Prim.Native.Nat.{ℕ, _+_, _-_, _*_, _/_, _≤_, _<_}
-use mathlib.Core.Path.{_≡_, refl, sym, ap, subst, _∙_}
-use mathlib.Core.Logic.{_≢_}
-use mathlib.Core.List.{List, [], _∷_}
-use mathlib.Core.Bool.{Bool, true, false, not}
+use Prim.Native.Nat.{_-_}
 use native.Mathlib.Omega.{arith}
 use borrow.Author.Needs.{needs}
-use lib.ListN.{length}
 use Rattle.lookup.specs.LookLaws.{lies-here}
 use Rattle.naming.specs.LocateLaws.{last-inside, here, new-record, own-record}
 use Rattle.naming.proofs.record_for.Statement.{statement}

@@ -1,5 +1,5 @@
 -- Each table of records is blanked, and file 1's record written.
-use Prim.Native.Nat.{ℕ, _≤_, _<_}
+use Prim.Native.Nat.{ℕ, _≤_}
 use mathlib.Core.Path.{_≡_, refl, sym, ap, _∙_}
 use mathlib.Core.List.{List, [], _∷_}
 use mathlib.Core.Bool.{Bool, true, false, not}
@@ -12,7 +12,7 @@ use Rattle.meaning.specs.Store.{prepared}
 use Rattle.meaning.specs.Tables.{Tables, tables, put, putAll, fileCount, fileRecord}
 use Rattle.meaning.specs.FileLaws.{length-zeros}
 use Rattle.meaning.specs.Sound.{lengthsAgree}
-use Rattle.meaning.specs.Result.{Result, refused, done, unless}
+use Rattle.meaning.specs.Result.{unless}
 use Rattle.meaning.specs.Run.{Call, meaning, accepts, resultOf, Promise}
 use Rattle.meaning.specs.Answers.{reported}
 use Rattle.meaning.specs.PromiseLaws.{kept-report, kept-done}

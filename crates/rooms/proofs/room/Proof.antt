@@ -1,17 +1,16 @@
 -- The three counts of the records are those of the store; each is below its table's count of records.
-use Prim.Native.Nat.{ℕ, _≤_, _<_}
-use mathlib.Core.Path.{_≡_, refl, sym, ap, _∙_}
+use Prim.Native.Nat.{ℕ, _≤_}
+use mathlib.Core.Path.{_≡_, refl, sym, _∙_}
 use mathlib.Core.List.{List, [], _∷_}
 use mathlib.Core.Bool.{Bool, true, false, not}
 use native.Mathlib.Omega.{arith}
 use borrow.Author.Needs.{needs}
 use borrow.Author.Tests.{not-true, not-false}
 use Rattle.records.specs.LoopLaws.{howMany-within}
-use Rattle.meaning.specs.Store.{freeBlocks, freeFiles, freeChannels}
-use Rattle.meaning.specs.Tables.{Tables, tables, storeOf, putAll, blockCount, fileCount, channelCount, isFree}
+use Rattle.meaning.specs.Tables.{Tables, tables, putAll, blockCount, fileCount, channelCount, isFree}
 use Rattle.meaning.specs.Sound.{sound}
 use Rattle.meaning.specs.ChannelCalls.{room}
-use Rattle.meaning.specs.Result.{Result, refused, done, unless}
+use Rattle.meaning.specs.Result.{done, unless}
 use Rattle.meaning.specs.Run.{Call, meaning, accepts, resultOf, Promise, refusal, accepted}
 use Rattle.meaning.specs.PromiseLaws.{kept-refusal, kept-done}
 use Rattle.meaning.specs.declared.Report.the-variants.{NotAStore}

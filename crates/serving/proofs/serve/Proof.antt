@@ -1,15 +1,12 @@
 -- A command by its kind; what its kind stands for is the command's call.
-use Prim.Native.Nat.{ℕ, _+_, _-_, _*_, _≤_, _<_}
-use mathlib.Core.Path.{_≡_, refl, sym, ap, subst, _∙_}
-use mathlib.Core.List.{List, [], _∷_, _++_}
-use mathlib.Core.Option.{Option, none, some}
-use native.Mathlib.Omega.{arith}
+use Prim.Native.Nat.{ℕ, _-_, _≤_}
+use mathlib.Core.Path.{_≡_, sym, ap, subst, _∙_}
+use mathlib.Core.List.{List}
+use mathlib.Core.Option.{some}
 use lib.ListN.{length, take, drop}
 use Rattle.meaning.specs.Tables.{Tables}
-use Rattle.meaning.specs.Run.{Call, Promise}
-use Rattle.text.specs.Lays.{Lays}
-use Rattle.text.specs.Print.{printed, newline, question}
-use Rattle.serving.specs.Serves.{Serves, lineRoom}
+use Rattle.meaning.specs.Run.{Call}
+use Rattle.serving.specs.Serves.{Serves}
 use Rattle.serving.specs.declared.Plain.{Plain}
 use Rattle.serving.specs.declared.OnChannel.{OnChannel}
 use Rattle.serving.specs.declared.OnName.{OnName}

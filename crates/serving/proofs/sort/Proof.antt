@@ -1,15 +1,6 @@
 -- Each command by its kind.
-use Prim.Native.Nat.{ℕ, _+_, _-_, _*_, _≤_, _<_}
-use mathlib.Core.Path.{_≡_, refl, sym, ap, subst, _∙_}
-use mathlib.Core.List.{List, [], _∷_, _++_}
-use mathlib.Core.Option.{Option, none, some}
-use native.Mathlib.Omega.{arith}
-use lib.ListN.{length, take, drop}
-use Rattle.meaning.specs.Tables.{Tables}
-use Rattle.meaning.specs.Run.{Call, Promise}
-use Rattle.text.specs.Lays.{Lays}
-use Rattle.text.specs.Print.{printed, newline, question}
-use Rattle.serving.specs.Serves.{Serves, lineRoom}
+use Prim.Native.Nat.{ℕ, _-_}
+use mathlib.Core.Path.{_≡_, sym, ap}
 use Rattle.serving.specs.declared.Plain.the-variants as P
 use Rattle.serving.specs.declared.OnChannel.the-variants as H
 use Rattle.serving.specs.declared.OnName.the-variants as N

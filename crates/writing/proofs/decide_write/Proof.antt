@@ -1,6 +1,6 @@
 -- Each return is a case of what write gives on a channel in use, by the tests that led there.
 use Prim.Native.Nat.{ℕ, _+_, _-_, _≤_, _<_, max}
-use mathlib.Core.Path.{_≡_, refl, sym, ap, _∙_}
+use mathlib.Core.Path.{_≡_, refl, sym, _∙_}
 use mathlib.Core.Logic.{_≢_}
 use mathlib.Core.List.{List, [], _∷_}
 use mathlib.Core.Bool.{Bool, true, false}
@@ -34,7 +34,7 @@ use Rattle.channels.specs.Held.{OnChannel, Holds, onChannelOf}
 use Rattle.channels.specs.HeldLaws.{refuses, holding, gives, channel-there, file-used, file-some, file-last, size-is, kind-is}
 use Rattle.channels.specs.declared.Held.{Held}
 use Rattle.channels.specs.declared.Held.the-variants.{Open, Refused}
-use Rattle.writing.specs.Write.{Decided, Ready, planned}
+use Rattle.writing.specs.Write.{Decided}
 use Rattle.writing.specs.declared.Writing.the-variants.{On, No}
 use Rattle.writing.proofs.decide_write.Statement.{statement}
 use Rattle.writing.proofs.decide_write.Tie as tie

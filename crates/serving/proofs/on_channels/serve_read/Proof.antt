@@ -1,15 +1,15 @@
 -- As many bytes are lent as are asked for.
-use Prim.Native.Nat.{ℕ, _+_, _-_, _*_, _≤_, _<_}
-use mathlib.Core.Path.{_≡_, refl, sym, ap, subst, _∙_}
-use mathlib.Core.List.{List, [], _∷_, _++_}
-use mathlib.Core.Option.{Option, none, some}
+use Prim.Native.Nat.{ℕ, _-_, _≤_}
+use mathlib.Core.Path.{_≡_, sym}
+use mathlib.Core.List.{List}
+use mathlib.Core.Option.{some}
 use native.Mathlib.Omega.{arith}
-use lib.ListN.{length, take, drop}
+use lib.ListN.{length, take}
 use lib.Seq.{length-take-le}
 use Rattle.meaning.specs.Tables.{Tables}
 use Rattle.meaning.specs.Run.{Call}
 use Rattle.text.specs.Line.{lentBytes}
-use Rattle.serving.specs.Serves.{Serves, shownOf}
+use Rattle.serving.specs.Serves.{Serves}
 use borrow.Author.Needs.{needs}
 use Rattle.serving.proofs.on_channels.serve_read.Statement.{statement}
 use Rattle.serving.proofs.on_channels.serve_read.Tie as tie

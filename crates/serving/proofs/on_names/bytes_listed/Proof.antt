@@ -1,15 +1,7 @@
 -- 14 times the answer's count.
-use Prim.Native.Nat.{ℕ, _+_, _-_, _*_, _≤_, _<_}
-use mathlib.Core.Path.{_≡_, refl, sym, ap, subst, _∙_}
-use mathlib.Core.List.{List, [], _∷_, _++_}
-use mathlib.Core.Option.{Option, none, some}
-use native.Mathlib.Omega.{arith}
-use lib.ListN.{length, take, drop}
-use lib.Seq.{length-take-le}
-use Rattle.meaning.specs.Tables.{Tables}
-use Rattle.meaning.specs.Run.{Call}
-use Rattle.text.specs.Line.{lentBytes}
-use Rattle.serving.specs.Serves.{Serves, shownOf}
+use Prim.Native.Nat.{ℕ, _-_, _*_}
+use mathlib.Core.Path.{_≡_}
+use Rattle.serving.specs.Serves.{shownOf}
 use Rattle.meaning.specs.declared.Counted.{Counted}
 use Rattle.meaning.specs.declared.Counted.the-variants.{Of}
 use borrow.Author.Needs.{needs}

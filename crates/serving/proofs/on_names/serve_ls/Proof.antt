@@ -1,15 +1,13 @@
 -- 2,048 bytes are lent.
-use Prim.Native.Nat.{ℕ, _+_, _-_, _*_, _≤_, _<_}
-use mathlib.Core.Path.{_≡_, refl, sym, ap, subst, _∙_}
-use mathlib.Core.List.{List, [], _∷_, _++_}
-use mathlib.Core.Option.{Option, none, some}
-use native.Mathlib.Omega.{arith}
-use lib.ListN.{length, take, drop}
-use lib.Seq.{length-take-le}
+use Prim.Native.Nat.{ℕ, _-_}
+use mathlib.Core.Path.{_≡_}
+use mathlib.Core.List.{List}
+use mathlib.Core.Option.{some}
+use lib.ListN.{length}
 use Rattle.meaning.specs.Tables.{Tables}
 use Rattle.meaning.specs.Run.{Call}
 use Rattle.text.specs.Line.{lentBytes}
-use Rattle.serving.specs.Serves.{Serves, shownOf}
+use Rattle.serving.specs.Serves.{Serves}
 use borrow.Author.Needs.{needs}
 use Rattle.serving.proofs.on_names.serve_ls.Statement.{statement}
 use Rattle.serving.proofs.on_names.serve_ls.Tie as tie

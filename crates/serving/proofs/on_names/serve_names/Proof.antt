@@ -1,18 +1,13 @@
 -- A part is what the code lends of the line.
-use Prim.Native.Nat.{ℕ, _+_, _-_, _*_, _≤_, _<_}
-use mathlib.Core.Path.{_≡_, refl, sym, ap, subst, _∙_}
-use mathlib.Core.List.{List, [], _∷_, _++_}
-use mathlib.Core.Option.{Option, none, some}
-use native.Mathlib.Omega.{arith}
-use lib.ListN.{length, take, drop}
-use lib.Seq.{length-take-le}
+use Prim.Native.Nat.{ℕ, _-_}
+use mathlib.Core.List.{List}
+use mathlib.Core.Option.{some}
+use lib.ListN.{take, drop}
 use Rattle.meaning.specs.Tables.{Tables}
-use Rattle.meaning.specs.Run.{Call}
-use Rattle.text.specs.Line.{lentBytes}
-use Rattle.serving.specs.Serves.{Serves, shownOf}
+use Rattle.serving.specs.Serves.{Serves}
 use Rattle.serving.specs.declared.OnNames.{OnNames}
 use Rattle.text.specs.declared.Span.{Span}
-use Rattle.text.specs.Commands.{part, Within}
+use Rattle.text.specs.Commands.{part}
 use Rattle.text.specs.CommandLaws.{part-is}
 use Rattle.serving.specs.Kinds.{namesCall}
 use borrow.Author.Needs.{needs}
