@@ -21,6 +21,7 @@ fn main() {
     calls();
     soundness();
     whole_blocks();
+    long_names();
 }
 
 /// Every call at three sizes; times of the library and of the model.
@@ -85,5 +86,21 @@ fn whole_blocks() {
                 room.library
             );
         }
+    }
+}
+
+/// Names that are no names, since they are too long.
+fn long_names() {
+    println!("\n| Bytes of a name | open |");
+    println!("|--:|--:|");
+    for count in [121, 10_000_000] {
+        let mut name = vec![b'a'; count];
+        name[0] = b'/';
+        let mut memory = Memory::prepared(2, 2, 1);
+        let open = Call::Open(&name);
+        let time = nanoseconds(|| {
+            black_box(library::perform(&open, &mut memory.lend(), &mut []));
+        });
+        println!("| {count} | {time:.0} |");
     }
 }
