@@ -6,13 +6,13 @@ use mathlib.Core.List.{List, [], _∷_}
 use mathlib.Core.Bool.{Bool, true, false, true≢false}
 use native.Mathlib.Numerals.{add-one}
 use native.Mathlib.Omega.{arith}
-use lib.Dec.{ltb, eqb}
+use lib.Dec.{eqb}
 use lib.ListN.{length, take, getD, set, length-take}
 use lib.Seq.{sets, take-suc, take-all}
-use borrow.Author.Tests.{lt-ltb, le-ltb, eq-eqb, ne-eqb}
-use Rattle.records.specs.Rows.{tally, lowest, lowestFrom, every, howMany, sum}
-use Rattle.records.specs.Tests.{tested, same-or-not, lt-or-ge}
-use Rattle.records.specs.RowLaws.{search-hit, search-miss, search-end, every-all, howMany-mono, sum-constant, sum-term, lowest-hit, lowest-le, some-lowest}
+use borrow.Author.Tests.{eq-eqb, ne-eqb}
+use Rattle.records.specs.Rows.{lowest, lowestFrom, every, howMany, sum}
+use Rattle.records.specs.Tests.{tested, same-or-not}
+use Rattle.records.specs.RowLaws.{search-hit, search-miss, search-end, every-all, howMany-mono, sum-constant, lowest-hit, lowest-le}
 use Rattle.records.specs.RecordLaws.{sets-append}
 
 -- ---- a search: what is left of it gives what the whole gives
@@ -82,24 +82,6 @@ module _ (p : ℕ → Bool) where
   unfolding howMany
   howMany-within n = omega (arith, howMany-mono n p (λ i. true) (λ i h e. refl), sum-constant n 1)
 
-  -- one passes exactly where the lowest is one
-  pub lowest-some : (n : ℕ) → lowest n p < n → 0 < howMany n p
-  unfolding howMany
-  lowest-some n h = omega (arith, sum-term n (λ i. tally (p i)) (lowest n p) h, one-there)
-    where
-      one-there : tally (p (lowest n p)) ≡ 1
-      one-there = rw (lowest-hit n p h)
-
-  pub some-test : (n : ℕ) → ltb (lowest n p) n ≡ ltb 0 (howMany n p)
-  some-test n =
-      ⊎-elim
-      (λ (h : 0 < howMany n p). rw (lt-ltb 0 (howMany n p) h, lt-ltb (lowest n p) n (some-lowest n p h)))
-      (λ (h : howMany n p ≤ 0). ⊎-elim
-      (λ (l : lowest n p < n). absurd (omega (arith, lowest-some n l)))
-      (λ (l : n ≤ lowest n p). rw (le-ltb 0 (howMany n p) h, le-ltb (lowest n p) n l))
-      (lt-or-ge (lowest n p) n))
-      (lt-or-ge 0 (howMany n p))
-
 -- ---- a sum
 
 module _ (g : ℕ → ℕ) where
@@ -127,12 +109,9 @@ module _ (p : ℕ → Bool) (i count next : ℕ) (so-far : count ≡ howMany i p
   pub skipped-other : (v ≡ w → ⊥) → next ≡ count → next ≡ howMany (i + 1) p
   skipped-other d m = omega (arith, count-miss p i (test ∙ ne-eqb v w d))
 
--- a count or a sum of the first i indices, of which there are n
+-- a count of the first i indices, of which there are n
 pub counted-all : (p : ℕ → Bool) (n i count : ℕ) → i ≤ n → n ≤ i → count ≡ howMany i p → count ≡ howMany n p
 counted-all p n i count l h so-far = let e : i ≡ n = omega arith in rw e at so-far
-
-pub summed-all : (g : ℕ → ℕ) (n i total : ℕ) → i ≤ n → n ≤ i → total ≡ sum i g → total ≡ sum n g
-summed-all g n i total l h so-far = let e : i ≡ n = omega arith in rw e at so-far
 
 -- ---- stores, one behind the other
 
