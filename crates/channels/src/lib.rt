@@ -1,4 +1,5 @@
 // Calls on a channel.
+#![tactic(auto)]
 ghost use Rattle.std.specs.Prelude.{◌≡◌, ◌+◌, ◌≤◌, ◌<◌, length};
 ghost use Rattle.meaning.specs.ChannelCalls.{seek_to};
 ghost use Rattle.meaning.specs.Run.{Keeps, KeepsInto, Call, entered};
@@ -15,7 +16,7 @@ use soundness::is_sound;
 use tables::{ChannelRecord, channel_record, count_channels, file_record, put_channel_record};
 
 // What a channel holds, or the refusal that comes before any other of a call on a channel.
-#[derive(Drop)]
+#[derive(Clone, Copy)]
 pub enum Held {
     Open(ChannelRecord),
     Refused(Report),
@@ -89,7 +90,7 @@ fn seek_to(mode: u32, posn: u32, size: u32, n: u32) -> u64
 }
 
 // What seek decides: the channel's record with its new position, or a refusal.
-#[derive(Drop)]
+#[derive(Clone, Copy)]
 pub enum Seeking {
     To(ChannelRecord),
     No(Report),
@@ -217,7 +218,7 @@ pub fn read(
 }
 
 // What close decides: the channel alone goes, its file goes with it, or a refusal.
-#[derive(Drop)]
+#[derive(Clone, Copy)]
 pub enum Closing {
     Alone,
     WithFile(FileNo),

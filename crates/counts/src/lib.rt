@@ -1,4 +1,5 @@
 // How many records name a file, and what goes with its last name.
+#![tactic(auto)]
 ghost use Rattle.std.specs.Prelude.{◌≡◌};
 ghost use Rattle.meaning.specs.Store.{names};
 ghost use Rattle.meaning.specs.Tables.{store_of};

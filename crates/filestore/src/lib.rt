@@ -1,5 +1,6 @@
 // The calls for programs in other languages. Each makes its call and tells the answer as four numbers; nothing is decided here.
 // Above each stands what it answers after its report.
+#![tactic(auto)]
 mod answers;
 
 ghost use Rattle.std.specs.Prelude.{length};
@@ -19,7 +20,7 @@ use writing::write;
 
 // What a call answers: its report, then its numbers, then zeros. A refusal has zeros after its report.
 #[repr(C)]
-#[derive(Drop)]
+#[derive(Clone, Copy)]
 pub struct Told {
     pub report: u32,
     pub first: u32,

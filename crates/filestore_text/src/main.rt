@@ -1,4 +1,5 @@
 // Calls from standard input, carried out on a store of 4 blocks, 4 files and 2 channels; a line is printed for each.
+#![tactic(auto)]
 mod pieces;
 
 ghost use Rattle.std.specs.Prelude.{◌≤◌, ◌<◌, ◌≡◌, length};

@@ -1,4 +1,5 @@
 // The calls that make and remove directories.
+#![tactic(auto)]
 ghost use Rattle.meaning.specs.Run.{Keeps, Call, entered};
 ghost use Rattle.meaning.specs.Answers.{reported};
 ghost use Rattle.folders.specs.Remove.{Removed};
@@ -14,7 +15,7 @@ use soundness::is_directory;
 use tables::{FoundFile, file_record, find_file, is_held};
 
 // What rmdir decides: the record that is made blank, by its directory and its place, and the directory that goes; or a refusal.
-#[derive(Drop)]
+#[derive(Clone, Copy)]
 pub enum Removing {
     Of(FileNo, usize, FileNo),
     No(Report),
@@ -81,7 +82,7 @@ pub fn rmdir(
 }
 
 // What mkdir decides: the record that gets the name, by its directory and its place, the new directory and its depth; or a refusal.
-#[derive(Drop)]
+#[derive(Clone, Copy)]
 pub enum Making {
     Of(FileNo, usize, FileNo, u8),
     No(Report),

@@ -1,4 +1,5 @@
 // The calls on two names.
+#![tactic(auto)]
 ghost use Rattle.std.specs.Prelude.{◌≡◌, true, not, ◌&&◌, ◌≤◌, eqb};
 ghost use Rattle.meaning.specs.Store.{is_directory};
 ghost use Rattle.meaning.specs.Tables.{tables, store_of, file_count};
@@ -20,7 +21,7 @@ use recording::{Fit, give_name, record_fits, take_name};
 use soundness::is_directory;
 
 // Two names located, or the refusal that comes before any other of a call on two names.
-#[derive(Drop)]
+#[derive(Clone, Copy)]
 pub enum Names {
     Found(Located, Located),
     Refused(Report),
@@ -84,7 +85,7 @@ fn is_lone(
 
 // How link goes: both names, where the new one's record is or goes, and whether the file that the new name stood for,
 // if any, has no other name and no channel.
-#[derive(Drop)]
+#[derive(Clone, Copy)]
 pub struct Plan {
     pub from: Located,
     pub to: Located,
@@ -92,7 +93,7 @@ pub struct Plan {
     pub lone: bool,
 }
 
-#[derive(Drop)]
+#[derive(Clone, Copy)]
 pub enum Linking {
     Of(Plan),
     No(Report),
@@ -255,7 +256,7 @@ pub fn link(
 }
 
 // How a move goes: as link does, and the old name's record in its directory.
-#[derive(Drop)]
+#[derive(Clone, Copy)]
 pub enum Moving {
     Of(Plan, usize),
     No(Report),

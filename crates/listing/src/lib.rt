@@ -1,4 +1,5 @@
 // The names of a directory: counted, and listed.
+#![tactic(auto)]
 ghost use Rattle.std.specs.Prelude.{◌≡◌, ◌+◌, ◌*◌, ◌≤◌, length};
 ghost use Rattle.std.proofs.lemmas.List.Edits.{sets};
 ghost use Rattle.meaning.specs.File.{over};
@@ -96,7 +97,7 @@ fn lay_names(blocks: &[u8], block_records: &[u8], d: FileNo, count: usize, buffe
 }
 
 // What ls decides: a directory, how many records it has and how many names; or a refusal.
-#[derive(Drop)]
+#[derive(Clone, Copy)]
 pub enum Listing {
     Of(FileNo, usize, u32),
     No(Report),

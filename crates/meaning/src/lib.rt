@@ -1,9 +1,10 @@
 // The types that calls speak in. Every definition of the store is in specs/.
+#![tactic(auto)]
 ghost use Rattle.std.specs.Prelude.{◌≡◌};
 ghost use Rattle.meaning.specs.Run.{number_of};
 
 // What a call reports, in document 01's order: the first is 0, the last 15.
-#[derive(Drop)]
+#[derive(Clone, Copy)]
 pub enum Report {
     Ok,
     NotAStore,
@@ -68,47 +69,47 @@ pub const MOST_CHANNELS: usize = 16;
 pub const BLOCK_SIZE: usize = 512;
 
 // Files are counted from 1; 0 means none.
-#[derive(Drop)]
+#[derive(Clone, Copy)]
 pub struct FileNo(pub u16);
 
 // Channels are counted from 0.
-#[derive(Drop)]
+#[derive(Clone, Copy)]
 pub struct ChannelNo(pub u32);
 
 // Blocks are counted from 0.
-#[derive(Drop)]
+#[derive(Clone, Copy)]
 pub struct BlockNo(pub u16);
 
 // What create and open answer: the channel.
-#[derive(Drop)]
+#[derive(Clone, Copy)]
 pub enum Opened {
     At(ChannelNo),
     Refused(Report),
 }
 
 // What read, write and ls answer: a count of bytes or of names.
-#[derive(Drop)]
+#[derive(Clone, Copy)]
 pub enum Counted {
     Of(u32),
     Refused(Report),
 }
 
 // What seek answers: the new position.
-#[derive(Drop)]
+#[derive(Clone, Copy)]
 pub enum Sought {
     At(u32),
     Refused(Report),
 }
 
 // What fstat answers: length, file number, kind.
-#[derive(Drop)]
+#[derive(Clone, Copy)]
 pub enum Stat {
     Of(u32, FileNo, u8),
     Refused(Report),
 }
 
 // What room answers: free blocks, free file numbers, free channels.
-#[derive(Drop)]
+#[derive(Clone, Copy)]
 pub enum Space {
     Of(u32, u32, u32),
     Refused(Report),

@@ -1,4 +1,5 @@
 // Names: their syllables, and the directory records that hold them (01, "Names").
+#![tactic(auto)]
 ghost use Rattle.std.specs.Prelude.{◌≡◌, ◌+◌, ◌-◌, ◌≤◌, ◌<◌, length};
 ghost use Rattle.std.proofs.lemmas.List.Edits.{sets};
 ghost use Rattle.records.specs.Numbers.{one};
@@ -14,7 +15,7 @@ use records::{put_two, two_at};
 const LONGEST_NAME: usize = 120;
 
 // What a row of bytes is as a name: how many syllables it has, or that it is not written as a name.
-#[derive(Drop)]
+#[derive(Clone, Copy)]
 pub enum NameForm {
     Syllables(usize),
     Bad,

@@ -1,4 +1,5 @@
 // A name judged, located and its record found: what every call on names begins with.
+#![tactic(auto)]
 ghost use Rattle.meaning.specs.Name.{syllables};
 ghost use Rattle.meaning.specs.Run.{entered};
 ghost use Rattle.names.specs.FormLaws.{Counted};
@@ -13,7 +14,7 @@ use names::{NameForm, last_start, name_form};
 use soundness::is_sound;
 
 // How many syllables a name has, or the refusal that comes before any other of a call on a name.
-#[derive(Drop)]
+#[derive(Clone, Copy)]
 pub enum Judged {
     Syllables(usize),
     Refused(Report),
@@ -39,7 +40,7 @@ pub fn judge_name(
 }
 
 // The directory that a name lies in, and the file that it stands for; 0 where there is none.
-#[derive(Drop)]
+#[derive(Clone, Copy)]
 pub struct Located {
     pub parent: FileNo,
     pub file: FileNo,

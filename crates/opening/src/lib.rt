@@ -1,4 +1,5 @@
 // The calls that open a channel by a name.
+#![tactic(auto)]
 ghost use Rattle.meaning.specs.Run.{Keeps, Call, entered};
 ghost use Rattle.meaning.specs.Answers.{opened};
 ghost use Rattle.opening.specs.Open.{Decided};
@@ -12,7 +13,7 @@ use soundness::is_directory;
 use tables::{ChannelRecord, FoundChannel, FoundFile, find_channel, find_file, put_channel_record};
 
 // What open decides: a channel for a file, or a refusal.
-#[derive(Drop)]
+#[derive(Clone, Copy)]
 pub enum Opening {
     Of(ChannelNo, FileNo),
     No(Report),
@@ -74,7 +75,7 @@ pub fn open(
 
 // What create decides: a channel for an existing file, which is to be emptied; a channel for a new file,
 // with the directory and the place of its name's record; or a refusal.
-#[derive(Drop)]
+#[derive(Clone, Copy)]
 pub enum Creating {
     Old(ChannelNo, FileNo),
     New(ChannelNo, FileNo, FileNo, usize),

@@ -1,23 +1,24 @@
 // Syllables are taken from the left, one at a time (01, "Names"). Whatever takes or makes the reader is thin and walked by hand; the work is in covered functions.
+#![tactic(auto)]
 ghost use Rattle.std.specs.Prelude.{◌≡◌};
 ghost use Rattle.paths.specs.Taking.{syllable_end, taken_at, end_taken, behind, reader_at, left_of};
 
 // A name, and the place that the next syllable starts at.
-#[derive(Drop)]
+#[derive(Clone, Copy)]
 pub struct PathReader<'a> {
     pub name: &'a [u8],
     pub at: usize,
 }
 
 // The next syllable: where it starts and where it ends, or that there is none.
-#[derive(Drop)]
+#[derive(Clone, Copy)]
 pub enum Taken {
     Syllable(usize, usize),
     Nothing,
 }
 
 // Where a syllable ends, and where what is left starts.
-#[derive(Drop)]
+#[derive(Clone, Copy)]
 pub struct Step {
     pub end: usize,
     pub next: usize,

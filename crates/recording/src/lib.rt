@@ -1,4 +1,5 @@
 // A name's record written into its directory, or made blank.
+#![tactic(auto)]
 ghost use Rattle.std.specs.Prelude.{◌≡◌, ◌+◌, ◌*◌, ◌≤◌, ◌<◌, max, length, true};
 ghost use Rattle.meaning.specs.Name.{blank_record, is_syllable};
 ghost use Rattle.meaning.specs.Store.{is_directory};
@@ -64,7 +65,7 @@ pub fn take_name(
 }
 
 // A directory has room for a record, or the refusal where it has none.
-#[derive(Drop)]
+#[derive(Clone, Copy)]
 pub enum Fit {
     Fits,
     No(Report),

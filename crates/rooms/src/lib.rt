@@ -1,4 +1,5 @@
 // What is free in a store, and a store prepared.
+#![tactic(auto)]
 ghost use Rattle.std.specs.Prelude.{◌≡◌, length, replicate};
 ghost use Rattle.meaning.specs.Run.{Keeps, Call};
 ghost use Rattle.meaning.specs.Answers.{reported, space_of};

@@ -1,4 +1,5 @@
 // A command carried out on the tables, and the line that is printed for it. Definitions are in specs/.
+#![tactic(auto)]
 mod no_argument;
 mod on_channels;
 mod on_names;
@@ -17,7 +18,7 @@ use text::lines::{Pending, ask};
 use text::{Command, Span};
 
 // No argument, or no call.
-#[derive(Drop)]
+#[derive(Clone, Copy)]
 pub enum Plain {
     Unknown,
     Prepare,
@@ -25,7 +26,7 @@ pub enum Plain {
 }
 
 // By a channel.
-#[derive(Drop)]
+#[derive(Clone, Copy)]
 pub enum OnChannel {
     Close(u32),
     Fstat(u32),
@@ -34,7 +35,7 @@ pub enum OnChannel {
 }
 
 // By a name.
-#[derive(Drop)]
+#[derive(Clone, Copy)]
 pub enum OnName {
     Create,
     Open,
@@ -45,14 +46,14 @@ pub enum OnName {
 }
 
 // By two names.
-#[derive(Drop)]
+#[derive(Clone, Copy)]
 pub enum OnNames {
     Link,
     Move,
 }
 
 // A command by what it goes by.
-#[derive(Drop)]
+#[derive(Clone, Copy)]
 pub enum Kind {
     Plain(Plain),
     Channel(OnChannel),

@@ -1,4 +1,5 @@
 // Records of the lent tables as structs, and searches over them.
+#![tactic(auto)]
 ghost use Rattle.std.specs.Prelude.{◌≡◌, ◌+◌, ◌-◌, ◌*◌, ◌≤◌, ◌<◌, length, ltb};
 ghost use Rattle.records.specs.Numbers.{zeros, with_record};
 ghost use Rattle.meaning.specs.File.{needed};
@@ -9,20 +10,20 @@ ghost use Rattle.tables.specs.Searches.{blocks_with, free_block_count, file_with
 use meaning::{BLOCK_SIZE, BlockNo, ChannelNo, FileNo};
 use records::{four_at, one_at, put_four, put_one, put_two, two_at, zeros_at};
 
-#[derive(Drop)]
+#[derive(Clone, Copy)]
 pub struct BlockRecord {
     pub owner: FileNo,
     pub place: u16,
 }
 
-#[derive(Drop)]
+#[derive(Clone, Copy)]
 pub struct FileRecord {
     pub kind: u8,
     pub depth: u8,
     pub length: u32,
 }
 
-#[derive(Drop)]
+#[derive(Clone, Copy)]
 pub struct ChannelRecord {
     pub file: FileNo,
     pub position: u32,
@@ -132,14 +133,14 @@ pub fn put_channel_record(records: &mut [u8], c: ChannelNo, record: ChannelRecor
 }
 
 // What a search for a file finds.
-#[derive(Drop)]
+#[derive(Clone, Copy)]
 pub enum FoundFile {
     At(FileNo),
     Nowhere,
 }
 
 // What a search for a channel finds.
-#[derive(Drop)]
+#[derive(Clone, Copy)]
 pub enum FoundChannel {
     At(ChannelNo),
     Nowhere,

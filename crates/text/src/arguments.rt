@@ -11,7 +11,7 @@ use crate::words::{NameWord, NumberWord, PairWord};
 use crate::{Command, Span};
 
 // A word of the line, if there is one that is not empty.
-#[derive(Drop)]
+#[derive(Clone, Copy)]
 pub enum Argument {
     Of(Span),
     Missing,
@@ -31,7 +31,7 @@ pub fn argument_at(line: &[u8], at: usize) -> Argument
 }
 
 // The number that a word is, if it is one.
-#[derive(Drop)]
+#[derive(Clone, Copy)]
 pub enum Number {
     Of(u32),
     Bad,
@@ -63,7 +63,7 @@ pub fn number_of(word: &[u8]) -> Number
 }
 
 // A number, and the place where the next argument starts.
-#[derive(Drop)]
+#[derive(Clone, Copy)]
 pub enum Numeral {
     Of(u32, usize),
     Bad,

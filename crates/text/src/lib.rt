@@ -1,4 +1,5 @@
 // A line of text to a call, an answer to a line. Definitions are in specs/.
+#![tactic(auto)]
 mod arguments;
 pub mod lines;
 pub mod print;
@@ -12,14 +13,14 @@ use search::find;
 use words::Word;
 
 // A part of the line: the bytes from one place up to, not including, another.
-#[derive(Drop)]
+#[derive(Clone, Copy)]
 pub struct Span {
     pub from: usize,
     pub to: usize,
 }
 
 // What a line asks for: a call, whose names and data are parts of the line, or nothing known.
-#[derive(Drop)]
+#[derive(Clone, Copy)]
 pub enum Command {
     Unknown,
     Prepare,

@@ -11,14 +11,14 @@ use crate::search::find;
 use crate::{Command, parse};
 
 // A line that has not ended: so many of its bytes stand in the line buffer, or it is too long.
-#[derive(Drop)]
+#[derive(Clone, Copy)]
 pub struct Pending {
     pub len: usize,
     pub long: bool,
 }
 
 // The line as far as the piece has it, the place where the rest of the piece starts, and whether the line has ended.
-#[derive(Drop)]
+#[derive(Clone, Copy)]
 pub struct Gathered {
     pub line: Pending,
     pub at: usize,

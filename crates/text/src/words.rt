@@ -9,7 +9,7 @@ ghost use Rattle.text.specs.Words.{call_of};
 use crate::search::same_bytes;
 
 // A word by the form of what follows it.
-#[derive(Drop)]
+#[derive(Clone, Copy)]
 pub enum Word {
     Unknown,
     Prepare,
@@ -23,7 +23,7 @@ pub enum Word {
 }
 
 // One name follows.
-#[derive(Drop)]
+#[derive(Clone, Copy)]
 pub enum NameWord {
     Create,
     Open,
@@ -34,14 +34,14 @@ pub enum NameWord {
 }
 
 // Two names follow.
-#[derive(Drop)]
+#[derive(Clone, Copy)]
 pub enum PairWord {
     Link,
     Move,
 }
 
 // One number follows.
-#[derive(Drop)]
+#[derive(Clone, Copy)]
 pub enum NumberWord {
     Close,
     Fstat,

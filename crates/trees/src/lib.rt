@@ -1,1 +1,2 @@
 // Stores in which one record of one directory changes: laws in specs/.
+#![tactic(auto)]

@@ -1,4 +1,5 @@
 // The call that takes a name from its file.
+#![tactic(auto)]
 ghost use Rattle.meaning.specs.Run.{Keeps, Call, entered};
 ghost use Rattle.meaning.specs.Answers.{reported};
 ghost use Rattle.unlinking.specs.Unlink.{Decided};
@@ -12,7 +13,7 @@ use soundness::is_directory;
 
 // What unlink decides: the record that is made blank, by its directory and its place, and the file that goes, 0 for none;
 // or a refusal.
-#[derive(Drop)]
+#[derive(Clone, Copy)]
 pub enum Unlinking {
     Of(FileNo, usize, FileNo),
     No(Report),

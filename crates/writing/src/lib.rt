@@ -1,4 +1,5 @@
 // Writing on a channel.
+#![tactic(auto)]
 ghost use Rattle.std.specs.Prelude.{◌≡◌, ◌+◌, ◌-◌, ◌≤◌, max, length, ltb};
 ghost use Rattle.meaning.specs.File.{needed, longest};
 ghost use Rattle.meaning.specs.Run.{Keeps, Call, entered};
@@ -32,7 +33,7 @@ fn new_blocks(old: usize, at: usize, n: usize) -> usize
 }
 
 // What write decides: the channel's record as it is, or a refusal.
-#[derive(Drop)]
+#[derive(Clone, Copy)]
 pub enum Writing {
     On(ChannelRecord),
     No(Report),
