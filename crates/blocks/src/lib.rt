@@ -78,7 +78,7 @@ pub fn copy_run(from: &[u8], start: usize, n: usize, to: &mut [u8], at: usize)
     requires { (start + n ≤ length from.now) × (at + n ≤ length to.old) }
     ensures { to.new ≡ sets to.old at (take n (drop start from.now)) }
 {
-    bytes::copy(&from[start..start + n], &mut to[at..at + n]);
+    to[at..at + n].copy_from_slice(&from[start..start + n]);
 }
 
 // How many of n bytes of a file, from byte k on, lie in one block.

@@ -18,8 +18,8 @@ fn find_named_in_run(
     from: usize,
     to: usize,
 ) -> usize
-    requires fact_1 { (at + 16 * n ≤ length blocks.now) × (n ≤ 32) }
-    requires fact_2 { (from ≤ to) × (to ≤ length name.now) }
+    requires run_in_bounds { (at + 16 * n ≤ length blocks.now) × (n ≤ 32) }
+    requires part_in_bounds { (from ≤ to) × (to ≤ length name.now) }
     ensures { result ≡ run_lowest (named_at blocks.now (part name.now from to)) at n }
 {
     let mut j = 0;
@@ -69,8 +69,8 @@ pub fn find_named(
     from: usize,
     to: usize,
 ) -> usize
-    requires fact_1 { Lies blocks.now block_records.now d.0 count }
-    requires fact_2 { (from ≤ to) × (to ≤ length name.now) }
+    requires lies { Lies blocks.now block_records.now d.0 count }
+    requires part_in_bounds { (from ≤ to) × (to ≤ length name.now) }
     ensures { result ≡ place_lowest (named_at blocks.now (part name.now from to)) block_records.now d.0 count }
 {
     let mut k = 0;

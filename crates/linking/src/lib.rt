@@ -73,8 +73,8 @@ fn is_lone(
     channel_records: &[u8],
     g: FileNo,
 ) -> bool
-    requires fact_1 { sound (tables blocks.now block_records.now file_records.now channel_records.now) ≡ true }
-    requires fact_2 { g.0 ≤ file_count file_records.now }
+    requires sound_store { sound (tables blocks.now block_records.now file_records.now channel_records.now) ≡ true }
+    requires g_in_bounds { g.0 ≤ file_count file_records.now }
     ensures { result ≡ lone (store_of (entered blocks block_records file_records channel_records)) g.0 }
 {
     if g.0 == 0 {

@@ -52,8 +52,8 @@ pub fn count_names(blocks: &[u8], block_records: &[u8], d: FileNo, count: usize)
 
 // The name of the record at a place laid into a buffer, from byte `to` on; of a blank record nothing. It answers where it ends.
 fn lay_name(blocks: &[u8], at: usize, buffer: &mut [u8], to: usize) -> usize
-    requires fact_1 { at + 16 ≤ length blocks.now }
-    requires fact_2 { to + length (name_at blocks.now at) ≤ length buffer.old }
+    requires at_in_bounds { at + 16 ≤ length blocks.now }
+    requires room_in_bounds { to + length (name_at blocks.now at) ≤ length buffer.old }
     ensures value { result ≡ to + length (name_at blocks.now at) }
     ensures buffer_after { buffer.new ≡ sets buffer.old to (name_at blocks.now at) }
 {
@@ -66,8 +66,8 @@ fn lay_name(blocks: &[u8], at: usize, buffer: &mut [u8], to: usize) -> usize
 
 // The names of n records from a place on laid into a buffer, from byte `to` on. It answers where they end.
 fn lay_names_in_run(blocks: &[u8], at: usize, n: usize, buffer: &mut [u8], to: usize) -> usize
-    requires fact_1 { (at + 16 * n ≤ length blocks.now) × (n ≤ 32) }
-    requires fact_2 { to + length (run_names blocks.now at n) ≤ length buffer.old }
+    requires run_in_bounds { (at + 16 * n ≤ length blocks.now) × (n ≤ 32) }
+    requires room_in_bounds { to + length (run_names blocks.now at n) ≤ length buffer.old }
     ensures value { result ≡ to + length (run_names blocks.now at n) }
     ensures buffer_after { buffer.new ≡ sets buffer.old to (run_names blocks.now at n) }
 {
@@ -82,8 +82,8 @@ fn lay_names_in_run(blocks: &[u8], at: usize, n: usize, buffer: &mut [u8], to: u
 
 // The names of directory d laid at the head of a buffer, in record order.
 fn lay_names(blocks: &[u8], block_records: &[u8], d: FileNo, count: usize, buffer: &mut [u8])
-    requires fact_1 { Lies blocks.now block_records.now d.0 count }
-    requires fact_2 { length (place_names blocks.now block_records.now d.0 count) ≤ length buffer.old }
+    requires lies { Lies blocks.now block_records.now d.0 count }
+    requires names_fit { length (place_names blocks.now block_records.now d.0 count) ≤ length buffer.old }
     ensures { buffer.new ≡ over buffer.old (place_names blocks.now block_records.now d.0 count) }
 {
     let mut end = 0;

@@ -46,8 +46,8 @@ pub fn look_in(
     from: usize,
     to: usize,
 ) -> FileNo
-    requires fact_1 { Shelves blocks.now block_records.now file_records.now }
-    requires fact_2 { (from ≤ to) × (to ≤ length name.now) }
+    requires shelves { Shelves blocks.now block_records.now file_records.now }
+    requires part_in_bounds { (from ≤ to) × (to ≤ length name.now) }
     ensures { result.0 ≡ within (filed blocks.now block_records.now file_records.now) d.0 (part name.now from to) }
 {
     if !is_directory(file_records, d) {

@@ -104,8 +104,8 @@ pub fn last_start(name: &[u8]) -> usize
 
 // Whether the record that starts at a place of a table has a part of a name as its name.
 pub fn names_record(table: &[u8], at: usize, name: &[u8], from: usize, to: usize) -> bool
-    requires fact_1 { at + 16 ≤ length table.now }
-    requires fact_2 { (from ≤ to) × (to ≤ length name.now) }
+    requires at_in_bounds { at + 16 ≤ length table.now }
+    requires part_in_bounds { (from ≤ to) × (to ≤ length name.now) }
     ensures { result ≡ same (entry_in (record_from table.now at)).name (part name.now from to) }
 {
     let n = to - from;
@@ -150,8 +150,8 @@ fn byte_or_zero(name: &[u8], from: usize, to: usize, i: usize) -> u8
 
 // A part of a name laid at a place, with zeros behind it up to 14 bytes.
 fn put_name(table: &mut [u8], at: usize, name: &[u8], from: usize, to: usize)
-    requires fact_1 { at + 14 ≤ length table.old }
-    requires fact_2 { (from ≤ to) × (to ≤ length name.now) × (to - from ≤ 14) }
+    requires at_in_bounds { at + 14 ≤ length table.old }
+    requires part_fits { (from ≤ to) × (to ≤ length name.now) × (to - from ≤ 14) }
     ensures { table.new ≡ sets table.old at (padded (part name.now from to)) }
 {
     let mut i = 0;
@@ -163,8 +163,8 @@ fn put_name(table: &mut [u8], at: usize, name: &[u8], from: usize, to: usize)
 
 // The record that starts at a place written anew: a part of a name comes to stand for a file.
 pub fn write_record(table: &mut [u8], at: usize, f: FileNo, name: &[u8], from: usize, to: usize)
-    requires fact_1 { at + 16 ≤ length table.old }
-    requires fact_2 { (from ≤ to) × (to ≤ length name.now) × (to - from ≤ 14) }
+    requires at_in_bounds { at + 16 ≤ length table.old }
+    requires part_fits { (from ≤ to) × (to ≤ length name.now) × (to - from ≤ 14) }
     ensures { table.new ≡ sets table.old at (written (entry f.0 (part name.now from to))) }
 {
     put_two(table, at, f.0);

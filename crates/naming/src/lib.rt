@@ -54,8 +54,8 @@ pub fn locate(
     name: &[u8],
     k: usize,
 ) -> Located
-    requires fact_1 { Shelves blocks.now block_records.now file_records.now }
-    requires fact_2 { Counted (syllables name.now) k }
+    requires shelves { Shelves blocks.now block_records.now file_records.now }
+    requires k_counted { Counted (syllables name.now) k }
     ensures { Locates (filed blocks.now block_records.now file_records.now) name.now result }
 {
     if k == 0 {

@@ -25,8 +25,8 @@ pub fn give_name(
     f: FileNo,
     name: &[u8],
 )
-    requires fact_1 { (i < 65536) × (last_start name.now ≤ length name.now) × (is_syllable (part name.now (last_start name.now) (length name.now)) ≡ true) }
-    requires fact_2 { Rewritable blocks.old block_records.old file_records.old d.0 i (record_of f.0 name.now) }
+    requires record_fits { (i < 65536) × (last_start name.now ≤ length name.now) × (is_syllable (part name.now (last_start name.now) (length name.now)) ≡ true) }
+    requires rewritable { Rewritable blocks.old block_records.old file_records.old d.0 i (record_of f.0 name.now) }
     ensures { Rewrites blocks block_records file_records d.0 i (record_of f.0 name.now) }
 {
     let mut record = [0u8; 16];
@@ -49,8 +49,8 @@ pub fn take_name(
     d: FileNo,
     i: usize,
 )
-    requires fact_1 { i < 65536 }
-    requires fact_2 { Rewritable blocks.old block_records.old file_records.old d.0 i blank_record }
+    requires i_in_bounds { i < 65536 }
+    requires rewritable { Rewritable blocks.old block_records.old file_records.old d.0 i blank_record }
     ensures { Rewrites blocks block_records file_records d.0 i blank_record }
 {
     let blank = [0u8; 16];
@@ -73,8 +73,8 @@ pub enum Fit {
 
 // Whether directory d has room for its record i. Only a record past the end asks for any.
 pub fn record_fits(block_records: &[u8], file_records: &[u8], d: FileNo, i: usize) -> Fit
-    requires fact_1 { is_directory (files_store file_records.now) d.0 ≡ true }
-    requires fact_2 { (file_length file_records.now d.0 ≤ 32768) × (i ≤ 2048) }
+    requires d_is_directory { is_directory (files_store file_records.now) d.0 ≡ true }
+    requires length_in_bounds { (file_length file_records.now d.0 ≤ 32768) × (i ≤ 2048) }
     ensures { FitsIn (free_block_count block_records.now) (file_length file_records.now d.0) (max (file_length file_records.now d.0) (16 * i + 16)) result }
 {
     let size = file_record(file_records, d).length as usize;

@@ -255,9 +255,9 @@ fn count_at(f: FileNo, i: u16) -> usize
 
 // Block b counted as its place of its owner, unless it is free.
 fn count_block(block_records: &[u8], b: BlockNo, counts: &mut [u8; 4160])
-    requires fact_1 { Placeable block_records.now }
-    requires fact_2 { b.0 < block_count block_records.now }
-    requires fact_3 { PlaceCounts block_records.now b.0 counts.old }
+    requires placeable { Placeable block_records.now }
+    requires b_in_bounds { b.0 < block_count block_records.now }
+    requires places_counted { PlaceCounts block_records.now b.0 counts.old }
     ensures { PlaceCounts block_records.now (b.0 + 1) counts.new }
 {
     let record = block_record(block_records, b);
@@ -327,8 +327,8 @@ fn all_counted(file_records: &[u8], counts: &[u8; 4160]) -> bool
 
 // The same as places_searched, by one pass over the block records, which are sound.
 fn places_counted(block_records: &[u8], file_records: &[u8]) -> bool
-    requires fact_1 { (file_count file_records.now ≤ 64) × (files_sound (files_store file_records.now) ≡ true) }
-    requires fact_2 { Placeable block_records.now }
+    requires files_sound { (file_count file_records.now ≤ 64) × (files_sound (files_store file_records.now) ≡ true) }
+    requires placeable { Placeable block_records.now }
     ensures { result ≡ every (file_count file_records.now) (λ r. placed_once (record_tables block_records.now file_records.now) (suc r)) }
 {
     let counts = count_places(block_records);
@@ -434,9 +434,9 @@ fn is_written(table: &[u8], at: usize) -> bool
 // Whether the records that start at two places have the same name. Zeros stand behind both, so their bytes are compared
 // four at a time.
 fn same_name(table: &[u8], at: usize, other: usize) -> bool
-    requires fact_1 { (at + 16 ≤ length table.now) × (other + 16 ≤ length table.now) }
-    requires fact_2 { Filled table.now at }
-    requires fact_3 { Filled table.now other }
+    requires records_in_bounds { (at + 16 ≤ length table.now) × (other + 16 ≤ length table.now) }
+    requires at_filled { Filled table.now at }
+    requires other_filled { Filled table.now other }
     ensures { result ≡ same (entry_in (record_from table.now at)).name (entry_in (record_from table.now other)).name }
 {
     if four_at(table, at + 2) != four_at(table, other + 2) {
@@ -498,8 +498,8 @@ fn records_sound(blocks: &[u8], file_records: &[u8], starts: &[u16; 64], n: usiz
 
 // Whether record i of a directory is blank, or no record before it has its name.
 fn name_new(blocks: &[u8], starts: &[u16; 64], i: usize) -> bool
-    requires fact_1 { Within blocks.now starts.now (i + 1) }
-    requires fact_2 { Padded blocks.now starts.now (i + 1) }
+    requires within { Within blocks.now starts.now (i + 1) }
+    requires padded { Padded blocks.now starts.now (i + 1) }
     ensures { result ≡ new_at blocks.now starts.now i }
 {
     let at = record_start(starts, i);
@@ -518,8 +518,8 @@ fn name_new(blocks: &[u8], starts: &[u16; 64], i: usize) -> bool
 
 // Whether no two of a directory's n records have the same name, each compared with every one before it.
 fn names_compared(blocks: &[u8], starts: &[u16; 64], n: usize) -> bool
-    requires fact_1 { Within blocks.now starts.now n }
-    requires fact_2 { Padded blocks.now starts.now n }
+    requires within { Within blocks.now starts.now n }
+    requires padded { Padded blocks.now starts.now n }
     ensures { result ≡ names_at blocks.now starts.now n }
 {
     let mut i: usize = 0;
@@ -548,10 +548,10 @@ fn chain_of(table: &[u8], at: usize) -> usize
 // Whether record i of a directory is blank, or no record before it in its chain has its name. `last` is one more than
 // the chain's last record before it, links[k] the same of record k, and 0 says that there is none.
 fn chain_new(blocks: &[u8], starts: &[u16; 64], links: &[u16; 2048], i: usize, last: u16) -> bool
-    requires fact_1 { Within blocks.now starts.now (i + 1) }
-    requires fact_2 { Padded blocks.now starts.now (i + 1) }
-    requires fact_3 { Links blocks.now starts.now i links.now }
-    requires fact_4 { Last blocks.now starts.now (chain_at blocks.now starts.now i) i last }
+    requires within { Within blocks.now starts.now (i + 1) }
+    requires padded { Padded blocks.now starts.now (i + 1) }
+    requires linked { Links blocks.now starts.now i links.now }
+    requires last_of_chain { Last blocks.now starts.now (chain_at blocks.now starts.now i) i last }
     ensures { result ≡ new_at blocks.now starts.now i }
 {
     let at = record_start(starts, i);
@@ -571,8 +571,8 @@ fn chain_new(blocks: &[u8], starts: &[u16; 64], links: &[u16; 2048], i: usize, l
 
 // The same as names_compared, where a name is compared with those of its chain alone.
 fn names_chained(blocks: &[u8], starts: &[u16; 64], n: usize) -> bool
-    requires fact_1 { Within blocks.now starts.now n }
-    requires fact_2 { Padded blocks.now starts.now n }
+    requires within { Within blocks.now starts.now n }
+    requires padded { Padded blocks.now starts.now n }
     ensures { result ≡ names_at blocks.now starts.now n }
 {
     let mut lasts: [u16; 1024] = [0; 1024];
@@ -620,8 +620,8 @@ fn all_deeper(blocks: &[u8], file_records: &[u8], starts: &[u16; 64], n: usize, 
 
 // Whether the records of file f, if that is a directory, are sound, their names new and what they name one deeper.
 fn directory_sound(blocks: &[u8], block_records: &[u8], file_records: &[u8], f: FileNo) -> bool
-    requires fact_1 { Placed blocks.now block_records.now file_records.now }
-    requires fact_2 { (0 < f.0) × (f.0 ≤ file_count file_records.now) }
+    requires placed { Placed blocks.now block_records.now file_records.now }
+    requires f_in_bounds { (0 < f.0) × (f.0 ≤ file_count file_records.now) }
     ensures { result ≡ directory_rule (directories_store blocks.now block_records.now file_records.now) f.0 }
 {
     let record = file_record(file_records, f);
@@ -678,10 +678,10 @@ fn add_names(
     f: FileNo,
     counts: &mut [u32; 65],
 )
-    requires fact_1 { Placed blocks.now block_records.now file_records.now }
-    requires fact_2 { (0 < f.0) × (f.0 ≤ file_count file_records.now) }
-    requires fact_3 { directories_rule (directories_store blocks.now block_records.now file_records.now) ≡ true }
-    requires fact_4 { Counts (directories_store blocks.now block_records.now file_records.now) (f.0 - 1) counts.old }
+    requires placed { Placed blocks.now block_records.now file_records.now }
+    requires f_in_bounds { (0 < f.0) × (f.0 ≤ file_count file_records.now) }
+    requires directories_kept { directories_rule (directories_store blocks.now block_records.now file_records.now) ≡ true }
+    requires counted { Counts (directories_store blocks.now block_records.now file_records.now) (f.0 - 1) counts.old }
     ensures { Counts (directories_store blocks.now block_records.now file_records.now) f.0 counts.new }
 {
     let record = file_record(file_records, f);
@@ -695,8 +695,8 @@ fn add_names(
 
 // How many records name each file, over all directories.
 pub fn count_names(blocks: &[u8], block_records: &[u8], file_records: &[u8]) -> [u32; 65]
-    requires fact_1 { Placed blocks.now block_records.now file_records.now }
-    requires fact_2 { directories_rule (directories_store blocks.now block_records.now file_records.now) ≡ true }
+    requires placed { Placed blocks.now block_records.now file_records.now }
+    requires directories_kept { directories_rule (directories_store blocks.now block_records.now file_records.now) ≡ true }
     ensures { Counts (directories_store blocks.now block_records.now file_records.now) (file_count file_records.now) result }
 {
     let mut counts: [u32; 65] = [0; 65];

@@ -10,8 +10,7 @@ use Rattle.names.specs.Syllables.{form_of}
 use Rattle.names.specs.FormLaws.{form_empty, form-first, form-root}
 use Rattle.names.specs.LongNames.{form_long}
 use borrow.Author.Rules.{rules}
-use Rattle.names.proofs.name_form.Statement.{statement}
-use Rattle.names.proofs.name_form.Tie as tie
+use Rattle.names.proofs.name_form.Goals as goal
 
 module _ (name : List ℕ) where
   empty : length name ≡ 0 → Bad ≡ form_of (syllables name)
@@ -32,35 +31,17 @@ module _ (name : List ℕ) where
   unfolding one
   slash-first e = e
 
-returns : tie.Need-returns
-returns c = search empty
+pub returns-then-name-eq0 : goal.returns-then-name-eq0
+returns-then-name-eq0 c = search empty
 
-returns-2 : tie.Need-returns-2
-returns-2 c = search too_long
+pub returns-then-name-gt-LONGEST_NAME : goal.returns-then-name-gt-LONGEST_NAME
+returns-then-name-gt-LONGEST_NAME c = search too_long
 
-shared-slice-read-if3 : tie.Need-shared-slice-read-if3
-shared-slice-read-if3 c = search rules
+pub returns-then-name-ne47 : goal.returns-then-name-ne47
+returns-then-name-ne47 c = search no_slash
 
-returns-3 : tie.Need-returns-3
-returns-3 c = search no_slash
+pub returns-then-name-eq1 : goal.returns-then-name-eq1
+returns-then-name-eq1 c = search slash-alone
 
-returns-4 : tie.Need-returns-4
-returns-4 c = search slash-alone
-
-count-syllables-requires : tie.Need-count-syllables-requires
-count-syllables-requires c κs = (search rules, search slash-first)
-
-returns-5 : tie.Need-returns-5
-returns-5 c = search rules
-
-pub name-form-spec : {M : Type 1} → statement M
-name-form-spec =
-    tie.close
-    (tie.spec
-    returns
-    returns-2
-    shared-slice-read-if3
-    returns-3
-    returns-4
-    count-syllables-requires
-    returns-5)
+pub count_syllables-requires : goal.count_syllables-requires
+count_syllables-requires c = (search rules, search slash-first)

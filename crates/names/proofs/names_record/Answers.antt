@@ -1,4 +1,3 @@
--- The bytes passed are those of the record's name, and none of them is 0; the measure is what is left of the part.
 use Prim.Native.Nat.{ℕ, ◌+◌, ◌-◌, ◌≤◌, ◌<◌}
 use mathlib.Core.Path.{◌≡◌, refl, sym, ap, ◌∙◌}
 use mathlib.Core.Bool.{true, false}
@@ -12,8 +11,7 @@ use Rattle.names.specs.Syllables.{part}
 use Rattle.names.specs.SyllableLaws.{length_part, one-part}
 use Rattle.names.specs.RecordNames.{record_from, begins, record_length, record_one, begins_none, begins-next, names_long, names-ended, names-other, names_full, names-end}
 use borrow.Author.Rules.{rules}
-use Rattle.names.proofs.names_record.Statement.{statement}
-use Rattle.names.proofs.names_record.Tie as tie
+use Rattle.names.proofs.names_record.Goals as goal
 
 module _ (table name : List ℕ) (at from to : ℕ) (fits : at + 16 ≤ length table) (l : from ≤ to) (h : to ≤ length name) where
   r : List ℕ
@@ -77,87 +75,23 @@ module _ (table name : List ℕ) (at from to : ℕ) (fits : at + 16 ≤ length t
           let q : one r (2 + length s) ≡ get_or table (at + 2 + n) 0 = rw z (in_record n (omega arith)) in
           sym (names-end r s sixteen all_begins (omega (arith, size)) ∙ ap (λ x. eqb x 0) q)
 
-abbrev invariant-loop : tie.invariant-loop
-invariant-loop table at name from to n i₀ i = (n ≡ to - from) × (n ≤ 14) × (i ≤ n) × (begins (record_from table at) (part name from to) i ≡ true)
+pub returns-then-n-gt-LONGEST_SYLLABLE : goal.returns-then-n-gt-LONGEST_SYLLABLE
+returns-then-n-gt-LONGEST_SYLLABLE c = search too_long
 
-abbrev decreases-loop : tie.decreases-loop
-decreases-loop table at name from to n i₀ i = n - i
+pub loop-i-init : goal.loop-i-init
+loop-i-init c = (refl, search rules, search rules, search begins_none)
 
-sub-n : tie.Need-overflow-sub-n invariant-loop decreases-loop
-sub-n c = search rules
+pub returns-then-b-eq0 : goal.returns-then-b-eq0
+returns-then-b-eq0 c = search ended
 
-returns : tie.Need-returns invariant-loop decreases-loop
-returns c = search too_long
+pub returns-then-b-name : goal.returns-then-b-name
+returns-then-b-name c = search other
 
-loop-holds : tie.Need-loop-init invariant-loop decreases-loop
-loop-holds c = (refl, search rules, search rules, search begins_none)
+pub loop-i-preserved : goal.loop-i-preserved
+loop-i-preserved c = (search rules, search rules, search rules, search one_more)
 
-add-b : tie.Need-overflow-add-b invariant-loop decreases-loop
-add-b c = search rules
+pub returns-then-n-eq-LONGEST_SYLLABLE : goal.returns-then-n-eq-LONGEST_SYLLABLE
+returns-then-n-eq-LONGEST_SYLLABLE c = search fourteen
 
-add-b-2 : tie.Need-overflow-add-b-2 invariant-loop decreases-loop
-add-b-2 c = search rules
-
-shared-slice-read-b : tie.Need-shared-slice-read-b invariant-loop decreases-loop
-shared-slice-read-b c = search rules
-
-returns-2 : tie.Need-returns-2 invariant-loop decreases-loop
-returns-2 c = search ended
-
-add-if3 : tie.Need-overflow-add-if3 invariant-loop decreases-loop
-add-if3 c = search rules
-
-shared-slice-read-if3 : tie.Need-shared-slice-read-if3 invariant-loop decreases-loop
-shared-slice-read-if3 c = search rules
-
-returns-3 : tie.Need-returns-3 invariant-loop decreases-loop
-returns-3 c = search other
-
-add-i : tie.Need-overflow-add-i invariant-loop decreases-loop
-add-i c = search rules
-
-loop-less : tie.Need-loop-smaller invariant-loop decreases-loop
-loop-less c = search rules
-
-loop-again : tie.Need-loop-preserved invariant-loop decreases-loop
-loop-again c = (search rules, search rules, search rules, search one_more)
-
-returns-4 : tie.Need-returns-4 invariant-loop decreases-loop
-returns-4 c = search fourteen
-
-add-result : tie.Need-overflow-add-result invariant-loop decreases-loop
-add-result c = search rules
-
-add-result-2 : tie.Need-overflow-add-result-2 invariant-loop decreases-loop
-add-result-2 c = search rules
-
-shared-slice-read-result : tie.Need-shared-slice-read-result invariant-loop decreases-loop
-shared-slice-read-result c = search rules
-
-returns-5 : tie.Need-returns-5 invariant-loop decreases-loop
-returns-5 c = search by_the-next
-
-pub names-record-spec : {M : Type 1} → statement M
-names-record-spec =
-    tie.close
-    (tie.spec
-    invariant-loop
-    decreases-loop
-    sub-n
-    returns
-    loop-holds
-    add-b
-    add-b-2
-    shared-slice-read-b
-    returns-2
-    add-if3
-    shared-slice-read-if3
-    returns-3
-    add-i
-    loop-less
-    loop-again
-    returns-4
-    add-result
-    add-result-2
-    shared-slice-read-result
-    returns-5)
+pub returns : goal.returns
+returns c = search by_the-next

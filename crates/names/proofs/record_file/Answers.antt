@@ -7,9 +7,7 @@ use lib.ListN.{length}
 use Rattle.records.specs.Numbers.{one, two}
 use Rattle.meaning.specs.Name.{entry_in}
 use Rattle.names.specs.RecordNames.{record_from, record_one}
-use borrow.Author.Rules.{rules}
-use Rattle.names.proofs.record_file.Statement.{statement}
-use Rattle.names.proofs.record_file.Tie as tie
+use Rattle.names.proofs.record_file.Goals as goal
 
 number : (table : List ℕ) (at n : ℕ) → at + 16 ≤ length table → n ≡ two table at → n ≡ (entry_in (record_from table at)).file
 unfolding entry_in two
@@ -19,11 +17,5 @@ number table at n fits e =
     let high : one (record_from table at) 1 ≡ one table (at + 1) = record_one table at fits 1 (omega arith) in
     omega arith
 
-two-at-requires : tie.Need-two-at-requires
-two-at-requires c κs = search rules
-
-returns : tie.Need-returns
+pub returns : goal.returns
 returns c = search number
-
-pub record-file-spec : {M : Type 1} → statement M
-record-file-spec = tie.close (tie.spec two-at-requires returns)

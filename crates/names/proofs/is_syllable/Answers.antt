@@ -1,4 +1,3 @@
--- Every byte passed is neither 0 nor a slash; the measure is what is left of the part.
 use Prim.Native.Nat.{ℕ, ◌+◌, ◌-◌, ◌≤◌, ◌<◌}
 use mathlib.Core.Path.{◌≡◌, refl, sym, ap, ◌∙◌}
 use mathlib.Core.Bool.{true, false}
@@ -14,8 +13,7 @@ use Rattle.names.specs.Syllables.{part}
 use Rattle.names.specs.SyllableTests.{is_plain, syllable_none, syllable_long, syllable_not, syllable_yes}
 use Rattle.names.specs.SyllableLaws.{length_part, one-part}
 use borrow.Author.Rules.{rules}
-use Rattle.names.proofs.is_syllable.Statement.{statement}
-use Rattle.names.proofs.is_syllable.Tie as tie
+use Rattle.names.proofs.is_syllable.Goals as goal
 
 module _ (name : List ℕ) (from to : ℕ) (l : from ≤ to) (h : to ≤ length name) where
   size : length (part name from to) ≡ to - from
@@ -56,63 +54,23 @@ none_yet name from to =
     let z : from - from ≡ 0 = omega arith in
     rw z
 
-abbrev invariant-loop : tie.invariant-loop
-invariant-loop name from to size i₀ i = (from ≤ i) × (i ≤ to) × (every (i - from) (is_plain (part name from to)) ≡ true)
+pub returns-then-size-lt1 : goal.returns-then-size-lt1
+returns-then-size-lt1 c = nothing _ _ _ (omega arith) (omega arith) (omega arith)
 
-abbrev decreases-loop : tie.decreases-loop
-decreases-loop name from to size i₀ i = to - i
+pub returns-then-size-gt-LONGEST_SYLLABLE : goal.returns-then-size-gt-LONGEST_SYLLABLE
+returns-then-size-gt-LONGEST_SYLLABLE c = too_long _ _ _ (omega arith) (omega arith) (omega arith)
 
-sub-size : tie.Need-overflow-sub-size invariant-loop decreases-loop
-sub-size c = search rules
+pub loop-i-init : goal.loop-i-init
+loop-i-init c = (search rules, search rules, search none_yet)
 
-returns : tie.Need-returns invariant-loop decreases-loop
-returns c = nothing _ _ _ (omega arith) (omega arith) (omega arith)
+pub returns-then-name-i-eq0 : goal.returns-then-name-i-eq0
+returns-then-name-i-eq0 c = search has_zero
 
-returns-2 : tie.Need-returns-2 invariant-loop decreases-loop
-returns-2 c = too_long _ _ _ (omega arith) (omega arith) (omega arith)
+pub returns-then-name-i-eq47 : goal.returns-then-name-i-eq47
+returns-then-name-i-eq47 c = search has_slash
 
-loop-holds : tie.Need-loop-init invariant-loop decreases-loop
-loop-holds c = (search rules, search rules, search none_yet)
+pub loop-i-preserved : goal.loop-i-preserved
+loop-i-preserved c = (search rules, search rules, search one_more)
 
-shared-slice-read-if3 : tie.Need-shared-slice-read-if3 invariant-loop decreases-loop
-shared-slice-read-if3 c = search rules
-
-returns-3 : tie.Need-returns-3 invariant-loop decreases-loop
-returns-3 c = search has_zero
-
-shared-slice-read-if4 : tie.Need-shared-slice-read-if4 invariant-loop decreases-loop
-shared-slice-read-if4 c = search rules
-
-returns-4 : tie.Need-returns-4 invariant-loop decreases-loop
-returns-4 c = search has_slash
-
-add-i : tie.Need-overflow-add-i invariant-loop decreases-loop
-add-i c = search rules
-
-loop-less : tie.Need-loop-smaller invariant-loop decreases-loop
-loop-less c = search rules
-
-loop-again : tie.Need-loop-preserved invariant-loop decreases-loop
-loop-again c = (search rules, search rules, search one_more)
-
-returns-5 : tie.Need-returns-5 invariant-loop decreases-loop
-returns-5 c = search passes
-
-pub is-syllable-spec : {M : Type 1} → statement M
-is-syllable-spec =
-    tie.close
-    (tie.spec
-    invariant-loop
-    decreases-loop
-    sub-size
-    returns
-    returns-2
-    loop-holds
-    shared-slice-read-if3
-    returns-3
-    shared-slice-read-if4
-    returns-4
-    add-i
-    loop-less
-    loop-again
-    returns-5)
+pub returns : goal.returns
+returns c = search passes

@@ -1,4 +1,3 @@
--- The form of k syllables and the pieces from here on is the form of the name; the measure is how many more may follow.
 use Prim.Native.Nat.{ℕ, ◌+◌, ◌-◌, ◌≤◌, ◌<◌}
 use mathlib.Core.Path.{◌≡◌, sym, ap, ◌∙◌}
 use mathlib.Core.Bool.{Bool, true, false, not}
@@ -14,8 +13,7 @@ use Rattle.names.specs.Syllables.{part, rest_from, form_of, form_with}
 use Rattle.names.specs.SyllableLaws.{end_low, end-within, split_from, rest-slash, rest_end}
 use Rattle.names.specs.FormLaws.{form_start, form_bad, form-next, form_done, form_many}
 use borrow.Author.Rules.{rules}
-use Rattle.names.proofs.count_syllables.Statement.{statement}
-use Rattle.names.proofs.count_syllables.Tie as tie
+use Rattle.names.proofs.count_syllables.Goals as goal
 
 module _ (name : List ℕ) (at k : ℕ) (inside : at ≤ length name) (so_far : form_of (syllables name) ≡ form_with k (split (drop at name))) where
   pieces : form_of (syllables name) ≡ form_with k (part name at (syllable_end name at) ∷ rest_from name (syllable_end name at))
@@ -56,51 +54,20 @@ module _ (name : List ℕ) (at k : ℕ) (inside : at ≤ length name) (so_far : 
         next_one : form_of (syllables name) ≡ form_with (k + 1) (split (drop next name))
         next_one = rw next_is (counted ∙ ap (form_with (k + 1)) (rest-slash name end (omega (arith, end_inside end isEnd))))
 
-abbrev invariant-loop : tie.invariant-loop
-invariant-loop name at₀ k₀ at k = (k ≤ 8) × ((at ≤ length name) × (form_of (syllables name) ≡ form_with k (split (drop at name))))
+pub loop-k-init : goal.loop-k-init
+loop-k-init c = (search rules, (search rules, search form_start))
 
-abbrev decreases-loop : tie.decreases-loop
-decreases-loop name at₀ k₀ at k = 8 - k
+pub is_syllable-requires : goal.is_syllable-requires
+is_syllable-requires c = (search end-behind, search end_inside)
 
-loop-holds : tie.Need-loop-init invariant-loop decreases-loop
-loop-holds c = (search rules, (search rules, search form_start))
+pub returns-then-not-is_syllable : goal.returns-then-not-is_syllable
+returns-then-not-is_syllable c = search no_syllable
 
-take-syllable-requires : tie.Need-take-syllable-requires invariant-loop decreases-loop
-take-syllable-requires c κs = search rules
+pub returns-then-end-name : goal.returns-then-end-name
+returns-then-end-name c = search last_one
 
-is-syllable-requires : tie.Need-is-syllable-requires invariant-loop decreases-loop
-is-syllable-requires c κs = (search end-behind, search end_inside)
+pub loop-k-preserved : goal.loop-k-preserved
+loop-k-preserved c = (search rules, (search next_inside, search next_one))
 
-returns : tie.Need-returns invariant-loop decreases-loop
-returns c = search no_syllable
-
-add-k : tie.Need-overflow-add-k invariant-loop decreases-loop
-add-k c = search rules
-
-returns-2 : tie.Need-returns-2 invariant-loop decreases-loop
-returns-2 c = search last_one
-
-loop-less : tie.Need-loop-smaller invariant-loop decreases-loop
-loop-less c = search rules
-
-loop-again : tie.Need-loop-preserved invariant-loop decreases-loop
-loop-again c = (search rules, (search next_inside, search next_one))
-
-returns-3 : tie.Need-returns-3 invariant-loop decreases-loop
-returns-3 c = search too_many
-
-pub count-syllables-spec : {M : Type 1} → statement M
-count-syllables-spec =
-    tie.close
-    (tie.spec
-    invariant-loop
-    decreases-loop
-    loop-holds
-    take-syllable-requires
-    is-syllable-requires
-    returns
-    add-k
-    returns-2
-    loop-less
-    loop-again
-    returns-3)
+pub returns : goal.returns
+returns c = search too_many

@@ -1,21 +1,16 @@
--- The search stands at the start or behind a slash; the measure is what is left of the name.
 use Prim.Native.Nat.{ℕ, ◌+◌, ◌-◌, ◌≤◌, ◌<◌}
 use mathlib.Core.Path.{◌≡◌, sym, ap, ◌∙◌}
-use mathlib.Core.Bool.{true}
 use mathlib.Core.List.{List}
 use native.Mathlib.Omega.{arith}
 use lib.ListN.{length}
-use Rattle.paths.specs.Taking.{is_slash, syllable_end, behind}
+use Rattle.paths.specs.Taking.{syllable_end, behind}
 use Rattle.paths.specs.TakingLaws.{behind-slash}
 use Rattle.names.specs.Syllables.{last_start}
 use Rattle.names.specs.SyllableLaws.{ends, end_low, end-within}
 use Rattle.names.specs.LastSyllable.{start_is}
 use borrow.Author.Rules.{rules}
-use Rattle.names.proofs.last_start.Statement.{statement}
-use Rattle.names.proofs.last_start.Tie as tie
-
-abbrev Behind : List ℕ → ℕ → Type 0
-Behind name at = 0 < at → is_slash name (at - 1) ≡ true
+use Rattle.names.proofs.last_start.Invariants.{Behind}
+use Rattle.names.proofs.last_start.Goals as goal
 
 module _ (name : List ℕ) (at : ℕ) (inside : at ≤ length name) (so_far : Behind name at) where
   none_left : length name ≤ at → at ≡ last_start name
@@ -43,39 +38,17 @@ module _ (name : List ℕ) (at : ℕ) (inside : at ≤ length name) (so_far : Be
       next_less : length name - next < length name - at
       next_less = omega (arith, next_is, isEnd, end_low name at, within)
 
-abbrev invariant-loop : tie.invariant-loop
-invariant-loop name at₀ at = (at ≤ length name) × Behind name at
+pub loop-at-init : goal.loop-at-init
+loop-at-init c = (search rules, λ (h : 0 < 0). absurd (omega arith))
 
-abbrev decreases-loop : tie.decreases-loop
-decreases-loop name at₀ at = length name - at
+pub returns-then-taken-name : goal.returns-then-taken-name
+returns-then-taken-name c = search last_one
 
-loop-holds : tie.Need-loop-init invariant-loop decreases-loop
-loop-holds c = (search rules, λ (h : 0 < 0). absurd (omega arith))
+pub loop-at-smaller : goal.loop-at-smaller
+loop-at-smaller c = search next_less
 
-take-syllable-requires : tie.Need-take-syllable-requires invariant-loop decreases-loop
-take-syllable-requires c κs = search rules
+pub loop-at-preserved : goal.loop-at-preserved
+loop-at-preserved c = (search next_inside, search next-behind)
 
-returns : tie.Need-returns invariant-loop decreases-loop
-returns c = search last_one
-
-loop-less : tie.Need-loop-smaller invariant-loop decreases-loop
-loop-less c = search next_less
-
-loop-again : tie.Need-loop-preserved invariant-loop decreases-loop
-loop-again c = (search next_inside, search next-behind)
-
-returns-2 : tie.Need-returns-2 invariant-loop decreases-loop
-returns-2 c = search none_left
-
-pub last-start-spec : {M : Type 1} → statement M
-last-start-spec =
-    tie.close
-    (tie.spec
-    invariant-loop
-    decreases-loop
-    loop-holds
-    take-syllable-requires
-    returns
-    loop-less
-    loop-again
-    returns-2)
+pub returns : goal.returns
+returns c = search none_left
