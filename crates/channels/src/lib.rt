@@ -1,8 +1,9 @@
 // Calls on a channel.
 #![tactic(auto)]
 ghost use Rattle.std.specs.Prelude.{◌≡◌, ◌+◌, ◌≤◌, ◌<◌, length};
+ghost use Rattle.meaning.specs.Tables.{tables};
 ghost use Rattle.meaning.specs.ChannelCalls.{seek_to};
-ghost use Rattle.meaning.specs.Run.{Keeps, KeepsInto, Call, entered};
+ghost use Rattle.meaning.specs.Run.{Keeps, KeepsInto, Call};
 ghost use Rattle.meaning.specs.Answers.{counted, reported, sought, stat_of};
 ghost use Rattle.channels.specs.Held.{OnChannel};
 ghost use Rattle.channels.specs.Move.{moved_by};
@@ -29,7 +30,7 @@ pub fn held_channel(
     channel_records: &[u8],
     c: ChannelNo,
 ) -> Held
-    ensures { OnChannel (entered blocks block_records file_records channel_records) c.0 result }
+    ensures { OnChannel (tables blocks.now block_records.now file_records.now channel_records.now) c.0 result }
 {
     if !is_sound(blocks, block_records, file_records, channel_records) {
         return Held::Refused(Report::NotAStore);
@@ -52,7 +53,7 @@ pub fn fstat(
     channel_records: &[u8],
     c: ChannelNo,
 ) -> Stat
-    ensures { Keeps (Call.Fstat c.0) blocks block_records file_records channel_records (stat_of result) }
+    ensures { Keeps (Call.Fstat c.0) (tables blocks.now block_records.now file_records.now channel_records.now) (tables blocks.now block_records.now file_records.now channel_records.now) (stat_of result) }
 {
     let held = held_channel(blocks, block_records, file_records, channel_records, c);
     match held {
@@ -106,7 +107,7 @@ fn decide_seek(
     mode: u32,
     n: u32,
 ) -> Seeking
-    ensures { Decided (entered blocks block_records file_records channel_records) c.0 mode n result }
+    ensures { Decided (tables blocks.now block_records.now file_records.now channel_records.now) c.0 mode n result }
 {
     let held = held_channel(blocks, block_records, file_records, channel_records, c);
     match held {
@@ -139,7 +140,7 @@ pub fn seek(
     mode: u32,
     n: u32,
 ) -> Sought
-    ensures { Keeps (Call.Seek c.0 mode n) blocks block_records file_records channel_records (sought result) }
+    ensures { Keeps (Call.Seek c.0 mode n) (tables blocks.now block_records.now file_records.now channel_records.old) (tables blocks.now block_records.now file_records.now channel_records.new) (sought result) }
 {
     let decided = decide_seek(
         blocks,
@@ -194,7 +195,7 @@ pub fn read(
     c: ChannelNo,
     buffer: &mut [u8],
 ) -> Counted
-    ensures { KeepsInto (Call.Read c.0 (length buffer.old)) blocks block_records file_records channel_records buffer (counted result) }
+    ensures { KeepsInto (Call.Read c.0 (length buffer.old)) (tables blocks.now block_records.now file_records.now channel_records.old) (tables blocks.now block_records.now file_records.now channel_records.new) buffer.old buffer.new (counted result) }
 {
     let held = held_channel(blocks, block_records, file_records, channel_records, c);
     match held {
@@ -233,7 +234,7 @@ fn decide_close(
     channel_records: &[u8],
     c: ChannelNo,
 ) -> Closing
-    ensures { Closes (entered blocks block_records file_records channel_records) c.0 result }
+    ensures { Closes (tables blocks.now block_records.now file_records.now channel_records.now) c.0 result }
 {
     let held = held_channel(blocks, block_records, file_records, channel_records, c);
     match held {
@@ -263,7 +264,7 @@ pub fn close(
     channel_records: &mut [u8],
     c: ChannelNo,
 ) -> Report
-    ensures { Keeps (Call.Close c.0) blocks block_records file_records channel_records (reported result) }
+    ensures { Keeps (Call.Close c.0) (tables blocks.now block_records.old file_records.old channel_records.old) (tables blocks.now block_records.new file_records.new channel_records.new) (reported result) }
 {
     let free = ChannelRecord {
         file: FileNo(0),

@@ -2,8 +2,8 @@
 #![tactic(auto)]
 ghost use Rattle.std.specs.Prelude.{◌≡◌};
 ghost use Rattle.meaning.specs.Store.{names};
-ghost use Rattle.meaning.specs.Tables.{store_of};
-ghost use Rattle.meaning.specs.Run.{entered};
+ghost use Rattle.meaning.specs.Tables.{tables, store_of};
+
 ghost use Rattle.soundness.specs.Slots.{directories_store};
 ghost use Rattle.counts.specs.OfStore.{OfStore};
 ghost use Rattle.counts.specs.Gone.{gone_with};
@@ -31,7 +31,7 @@ pub fn gone_with(
     f: FileNo,
 ) -> FileNo
     requires { OfStore blocks.now block_records.now file_records.now f.0 }
-    ensures { result.0 ≡ gone_with (store_of (entered blocks block_records file_records channel_records)) f.0 }
+    ensures { result.0 ≡ gone_with (store_of (tables blocks.now block_records.now file_records.now channel_records.now)) f.0 }
 {
     if names_of(blocks, block_records, file_records, f) != 1 {
         return FileNo(0);

@@ -1,7 +1,7 @@
 -- What a program in another language is told: an answer as four numbers, and the promise of a call with its answer so told.
 use Rattle.std.specs.Prelude.{ℕ, ◌-◌, ◌≡◌, List, [], ◌∷◌, ◌++◌, length, replicate}
 use Rattle.meaning.specs.Tables.{Tables}
-use Rattle.meaning.specs.Run.{Call, Answer, Promise, Lent, entered, left, number_of}
+use Rattle.meaning.specs.Run.{Call, Answer, Promise, number_of}
 use Rattle.meaning.specs.declared.Report.{Report}
 use Rattle.filestore.specs.declared.Told.{Told}
 
@@ -29,10 +29,8 @@ pub record PromiseTold (call : Call) (t : Tables) (buffer : List ℕ) (o : Seen)
   pub keeps : Promise call t buffer (record { answer = answer; buffer = o.buffer; tables = o.tables })
   pub tells : four o.told ≡ in_four answer
 
-abbrev pub TellsInto : Call → Lent → Lent → Lent → Lent → Lent → Told → Type 0
-TellsInto call b br fr cr buffer r =
-    PromiseTold call (entered b br fr cr) buffer.entry.now (record { told = r; buffer = buffer.exit.now; tables = left b br fr cr })
+abbrev pub TellsInto : Call → Tables → Tables → List ℕ → List ℕ → Told → Type 0
+TellsInto call t t' buffer buffer' r = PromiseTold call t buffer (record { told = r; buffer = buffer'; tables = t' })
 
-abbrev pub Tells : Call → Lent → Lent → Lent → Lent → Told → Type 0
-Tells call b br fr cr r =
-    PromiseTold call (entered b br fr cr) [] (record { told = r; buffer = []; tables = left b br fr cr })
+abbrev pub Tells : Call → Tables → Tables → Told → Type 0
+Tells call t t' r = PromiseTold call t [] (record { told = r; buffer = []; tables = t' })

@@ -4,6 +4,7 @@
 mod answers;
 
 ghost use Rattle.std.specs.Prelude.{length};
+ghost use Rattle.meaning.specs.Tables.{tables};
 ghost use Rattle.meaning.specs.Run.{Call};
 ghost use Rattle.filestore.specs.Tells.{Tells, TellsInto};
 
@@ -36,7 +37,7 @@ pub extern "C" fn filestore_prepare(
     file_records: &mut [u8],
     channel_records: &mut [u8],
 ) -> Told
-    ensures { Tells Call.Prepare blocks block_records file_records channel_records result }
+    ensures { Tells Call.Prepare (tables blocks.now block_records.old file_records.old channel_records.old) (tables blocks.now block_records.new file_records.new channel_records.new) result }
 {
     let answer = prepare(blocks, block_records, file_records, channel_records);
     tell_report(answer)
@@ -51,7 +52,7 @@ pub extern "C" fn filestore_create(
     channel_records: &mut [u8],
     name: &[u8],
 ) -> Told
-    ensures { Tells (Call.Create name.now) blocks block_records file_records channel_records result }
+    ensures { Tells (Call.Create name.now) (entered blocks block_records file_records channel_records) (left blocks block_records file_records channel_records) result }
 {
     let answer = create(blocks, block_records, file_records, channel_records, name);
     tell_opened(answer)
@@ -66,7 +67,7 @@ pub extern "C" fn filestore_open(
     channel_records: &mut [u8],
     name: &[u8],
 ) -> Told
-    ensures { Tells (Call.Open name.now) blocks block_records file_records channel_records result }
+    ensures { Tells (Call.Open name.now) (tables blocks.now block_records.now file_records.now channel_records.old) (tables blocks.now block_records.now file_records.now channel_records.new) result }
 {
     let answer = open(blocks, block_records, file_records, channel_records, name);
     tell_opened(answer)
@@ -81,7 +82,7 @@ pub extern "C" fn filestore_close(
     channel_records: &mut [u8],
     c: u32,
 ) -> Told
-    ensures { Tells (Call.Close c) blocks block_records file_records channel_records result }
+    ensures { Tells (Call.Close c) (tables blocks.now block_records.old file_records.old channel_records.old) (tables blocks.now block_records.new file_records.new channel_records.new) result }
 {
     let answer = close(
         blocks,
@@ -103,7 +104,7 @@ pub extern "C" fn filestore_read(
     c: u32,
     buffer: &mut [u8],
 ) -> Told
-    ensures { TellsInto (Call.Read c (length buffer.old)) blocks block_records file_records channel_records buffer result }
+    ensures { TellsInto (Call.Read c (length buffer.old)) (tables blocks.now block_records.now file_records.now channel_records.old) (tables blocks.now block_records.now file_records.now channel_records.new) buffer.old buffer.new result }
 {
     let answer = read(
         blocks,
@@ -126,7 +127,7 @@ pub extern "C" fn filestore_write(
     c: u32,
     data: &[u8],
 ) -> Told
-    ensures { Tells (Call.Write c «data».now) blocks block_records file_records channel_records result }
+    ensures { Tells (Call.Write c «data».now) (entered blocks block_records file_records channel_records) (left blocks block_records file_records channel_records) result }
 {
     let answer = write(
         blocks,
@@ -150,7 +151,7 @@ pub extern "C" fn filestore_seek(
     mode: u32,
     n: u32,
 ) -> Told
-    ensures { Tells (Call.Seek c mode n) blocks block_records file_records channel_records result }
+    ensures { Tells (Call.Seek c mode n) (tables blocks.now block_records.now file_records.now channel_records.old) (tables blocks.now block_records.now file_records.now channel_records.new) result }
 {
     let answer = seek(
         blocks,
@@ -173,7 +174,7 @@ pub extern "C" fn filestore_fstat(
     channel_records: &[u8],
     c: u32,
 ) -> Told
-    ensures { Tells (Call.Fstat c) blocks block_records file_records channel_records result }
+    ensures { Tells (Call.Fstat c) (tables blocks.now block_records.now file_records.now channel_records.now) (tables blocks.now block_records.now file_records.now channel_records.now) result }
 {
     let answer = fstat(
         blocks,
@@ -195,7 +196,7 @@ pub extern "C" fn filestore_link(
     old: &[u8],
     new: &[u8],
 ) -> Told
-    ensures { Tells (Call.Link old.now new.now) blocks block_records file_records channel_records result }
+    ensures { Tells (Call.Link old.now new.now) (tables blocks.old block_records.old file_records.old channel_records.now) (tables blocks.new block_records.new file_records.new channel_records.now) result }
 {
     let answer = link(
         blocks,
@@ -217,7 +218,7 @@ pub extern "C" fn filestore_unlink(
     channel_records: &[u8],
     name: &[u8],
 ) -> Told
-    ensures { Tells (Call.Unlink name.now) blocks block_records file_records channel_records result }
+    ensures { Tells (Call.Unlink name.now) (tables blocks.old block_records.old file_records.old channel_records.now) (tables blocks.new block_records.new file_records.new channel_records.now) result }
 {
     let answer = unlink(blocks, block_records, file_records, channel_records, name);
     tell_report(answer)
@@ -233,7 +234,7 @@ pub extern "C" fn filestore_move(
     old: &[u8],
     new: &[u8],
 ) -> Told
-    ensures { Tells (Call.Move old.now new.now) blocks block_records file_records channel_records result }
+    ensures { Tells (Call.Move old.now new.now) (tables blocks.old block_records.old file_records.old channel_records.now) (tables blocks.new block_records.new file_records.new channel_records.now) result }
 {
     let answer = move_name(
         blocks,
@@ -256,7 +257,7 @@ pub extern "C" fn filestore_ls(
     name: &[u8],
     buffer: &mut [u8],
 ) -> Told
-    ensures { TellsInto (Call.Ls name.now (length buffer.old)) blocks block_records file_records channel_records buffer result }
+    ensures { TellsInto (Call.Ls name.now (length buffer.old)) (tables blocks.now block_records.now file_records.now channel_records.now) (tables blocks.now block_records.now file_records.now channel_records.now) buffer.old buffer.new result }
 {
     let answer = ls(
         blocks,
@@ -278,7 +279,7 @@ pub extern "C" fn filestore_mkdir(
     channel_records: &[u8],
     name: &[u8],
 ) -> Told
-    ensures { Tells (Call.Mkdir name.now) blocks block_records file_records channel_records result }
+    ensures { Tells (Call.Mkdir name.now) (tables blocks.old block_records.old file_records.old channel_records.now) (tables blocks.new block_records.new file_records.new channel_records.now) result }
 {
     let answer = mkdir(blocks, block_records, file_records, channel_records, name);
     tell_report(answer)
@@ -293,7 +294,7 @@ pub extern "C" fn filestore_rmdir(
     channel_records: &[u8],
     name: &[u8],
 ) -> Told
-    ensures { Tells (Call.Rmdir name.now) blocks block_records file_records channel_records result }
+    ensures { Tells (Call.Rmdir name.now) (tables blocks.old block_records.old file_records.old channel_records.now) (tables blocks.new block_records.new file_records.new channel_records.now) result }
 {
     let answer = rmdir(blocks, block_records, file_records, channel_records, name);
     tell_report(answer)
@@ -307,7 +308,7 @@ pub extern "C" fn filestore_room(
     file_records: &[u8],
     channel_records: &[u8],
 ) -> Told
-    ensures { Tells Call.Room blocks block_records file_records channel_records result }
+    ensures { Tells Call.Room (tables blocks.now block_records.now file_records.now channel_records.now) (tables blocks.now block_records.now file_records.now channel_records.now) result }
 {
     let answer = room(blocks, block_records, file_records, channel_records);
     tell_space(answer)

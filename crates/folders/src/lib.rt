@@ -1,6 +1,7 @@
 // The calls that make and remove directories.
 #![tactic(auto)]
-ghost use Rattle.meaning.specs.Run.{Keeps, Call, entered};
+ghost use Rattle.meaning.specs.Tables.{tables};
+ghost use Rattle.meaning.specs.Run.{Keeps, Call};
 ghost use Rattle.meaning.specs.Answers.{reported};
 ghost use Rattle.folders.specs.Remove.{Removed};
 ghost use Rattle.folders.specs.Make.{NewName, Made};
@@ -29,7 +30,7 @@ fn decide_rmdir(
     channel_records: &[u8],
     name: &[u8],
 ) -> Removing
-    ensures { Removed (entered blocks block_records file_records channel_records) name.now result }
+    ensures { Removed (tables blocks.now block_records.now file_records.now channel_records.now) name.now result }
 {
     let judged = judge_name(blocks, block_records, file_records, channel_records, name);
     match judged {
@@ -68,7 +69,7 @@ pub fn rmdir(
     channel_records: &[u8],
     name: &[u8],
 ) -> Report
-    ensures { Keeps (Call.Rmdir name.now) blocks block_records file_records channel_records (reported result) }
+    ensures { Keeps (Call.Rmdir name.now) (tables blocks.old block_records.old file_records.old channel_records.now) (tables blocks.new block_records.new file_records.new channel_records.now) (reported result) }
 {
     let decided = decide_rmdir(blocks, block_records, file_records, channel_records, name);
     match decided {
@@ -98,7 +99,7 @@ fn decide_new(
     at: Located,
 ) -> Making
     requires { NewName blocks.now block_records.now file_records.now channel_records.now name.now at }
-    ensures { Made (entered blocks block_records file_records channel_records) name.now result }
+    ensures { Made (tables blocks.now block_records.now file_records.now channel_records.now) name.now result }
 {
     let d = at.parent;
     let FoundFile::At(new) = find_file(file_records, 0) else {
@@ -121,7 +122,7 @@ fn decide_mkdir(
     channel_records: &[u8],
     name: &[u8],
 ) -> Making
-    ensures { Made (entered blocks block_records file_records channel_records) name.now result }
+    ensures { Made (tables blocks.now block_records.now file_records.now channel_records.now) name.now result }
 {
     let judged = judge_name(blocks, block_records, file_records, channel_records, name);
     match judged {
@@ -159,7 +160,7 @@ pub fn mkdir(
     channel_records: &[u8],
     name: &[u8],
 ) -> Report
-    ensures { Keeps (Call.Mkdir name.now) blocks block_records file_records channel_records (reported result) }
+    ensures { Keeps (Call.Mkdir name.now) (tables blocks.old block_records.old file_records.old channel_records.now) (tables blocks.new block_records.new file_records.new channel_records.now) (reported result) }
 {
     let decided = decide_mkdir(blocks, block_records, file_records, channel_records, name);
     match decided {

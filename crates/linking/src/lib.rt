@@ -4,7 +4,7 @@ ghost use Rattle.std.specs.Prelude.{◌≡◌, true, not, ◌&&◌, ◌≤◌, e
 ghost use Rattle.meaning.specs.Store.{is_directory};
 ghost use Rattle.meaning.specs.Tables.{tables, store_of, file_count};
 ghost use Rattle.meaning.specs.Sound.{sound};
-ghost use Rattle.meaning.specs.Run.{Keeps, Call, entered};
+ghost use Rattle.meaning.specs.Run.{Keeps, Call};
 ghost use Rattle.meaning.specs.Answers.{reported};
 ghost use Rattle.soundness.specs.Seen.{files_store};
 ghost use Rattle.linking.specs.Names.{FindsNames};
@@ -36,7 +36,7 @@ fn find_names(
     old: &[u8],
     new: &[u8],
 ) -> Names
-    ensures { FindsNames (entered blocks block_records file_records channel_records) old.now new.now result }
+    ensures { FindsNames (tables blocks.now block_records.now file_records.now channel_records.now) old.now new.now result }
 {
     let judged = judge_name(blocks, block_records, file_records, channel_records, old);
     match judged {
@@ -75,7 +75,7 @@ fn is_lone(
 ) -> bool
     requires sound_store { sound (tables blocks.now block_records.now file_records.now channel_records.now) ≡ true }
     requires g_in_bounds { g.0 ≤ file_count file_records.now }
-    ensures { result ≡ lone (store_of (entered blocks block_records file_records channel_records)) g.0 }
+    ensures { result ≡ lone (store_of (tables blocks.now block_records.now file_records.now channel_records.now)) g.0 }
 {
     if g.0 == 0 {
         return false;
@@ -108,7 +108,7 @@ fn decide_link(
     old: &[u8],
     new: &[u8],
 ) -> Linking
-    ensures { Decides (entered blocks block_records file_records channel_records) old.now new.now result }
+    ensures { Decides (tables blocks.now block_records.now file_records.now channel_records.now) old.now new.now result }
 {
     let names = find_names(
         blocks,
@@ -236,7 +236,7 @@ pub fn link(
     old: &[u8],
     new: &[u8],
 ) -> Report
-    ensures { Keeps (Call.Link old.now new.now) blocks block_records file_records channel_records (reported result) }
+    ensures { Keeps (Call.Link old.now new.now) (tables blocks.old block_records.old file_records.old channel_records.now) (tables blocks.new block_records.new file_records.new channel_records.now) (reported result) }
 {
     let decided = decide_link(
         blocks,
@@ -271,7 +271,7 @@ fn decide_move(
     old: &[u8],
     new: &[u8],
 ) -> Moving
-    ensures { DecidesMove (entered blocks block_records file_records channel_records) old.now new.now result }
+    ensures { DecidesMove (tables blocks.now block_records.now file_records.now channel_records.now) old.now new.now result }
 {
     let decided = decide_link(
         blocks,
@@ -299,7 +299,7 @@ pub fn move_name(
     old: &[u8],
     new: &[u8],
 ) -> Report
-    ensures { Keeps (Call.Move old.now new.now) blocks block_records file_records channel_records (reported result) }
+    ensures { Keeps (Call.Move old.now new.now) (tables blocks.old block_records.old file_records.old channel_records.now) (tables blocks.new block_records.new file_records.new channel_records.now) (reported result) }
 {
     let decided = decide_move(
         blocks,

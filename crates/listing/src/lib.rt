@@ -2,8 +2,9 @@
 #![tactic(auto)]
 ghost use Rattle.std.specs.Prelude.{◌≡◌, ◌+◌, ◌*◌, ◌≤◌, length};
 ghost use Rattle.std.proofs.lemmas.List.Edits.{sets};
+ghost use Rattle.meaning.specs.Tables.{tables};
 ghost use Rattle.meaning.specs.File.{over};
-ghost use Rattle.meaning.specs.Run.{KeepsInto, Call, entered};
+ghost use Rattle.meaning.specs.Run.{KeepsInto, Call};
 ghost use Rattle.meaning.specs.Answers.{counted};
 ghost use Rattle.directories.specs.Find.{Lies};
 ghost use Rattle.listing.specs.Names.{name_at, run_count, run_names, place_count, place_names};
@@ -112,7 +113,7 @@ fn decide_ls(
     name: &[u8],
     size: usize,
 ) -> Listing
-    ensures { Decided (entered blocks block_records file_records channel_records) name.now size result }
+    ensures { Decided (tables blocks.now block_records.now file_records.now channel_records.now) name.now size result }
 {
     let judged = judge_name(blocks, block_records, file_records, channel_records, name);
     match judged {
@@ -145,7 +146,7 @@ pub fn ls(
     name: &[u8],
     buffer: &mut [u8],
 ) -> Counted
-    ensures { KeepsInto (Call.Ls name.now (length buffer.old)) blocks block_records file_records channel_records buffer (counted result) }
+    ensures { KeepsInto (Call.Ls name.now (length buffer.old)) (tables blocks.now block_records.now file_records.now channel_records.now) (tables blocks.now block_records.now file_records.now channel_records.now) buffer.old buffer.new (counted result) }
 {
     let decided = decide_ls(
         blocks,

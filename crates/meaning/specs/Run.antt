@@ -1,7 +1,7 @@
 -- Every call, what it gives on lent tables, and the promise that each call keeps (01, "How much a promise says").
 use Rattle.std.specs.Prelude.{ℕ, ◌≡◌, List, [], ◌∷◌, Bool, not, replicate, eqb}
 use Rattle.records.specs.Rows.{pick}
-use Rattle.std.specs.Borrow.{Bor}
+use Rattle.std.specs.Borrow.{MutBor}
 use denote.Triple.Both.{Both}
 use Rattle.meaning.specs.File.{over}
 use Rattle.meaning.specs.Store.{Store, Change, prepared}
@@ -151,11 +151,11 @@ pub record Promise (call : Call) (t : Tables) (buffer : List ℕ) (o : Outcome) 
   pub fills : o.buffer ≡ over buffer (bytes_of (result_of call t))
   pub leaves : o.tables ≡ put_all t (changes_of (result_of call t))
 
--- ---- the promise in a contract, over the parameters themselves: the same for & and &mut
+-- ---- the promise in a contract
 
--- a table, or a buffer, as a call was lent it and as it leaves it
+-- a table, or a buffer, as a call was lent it to be changed, and as the call leaves it
 abbrev pub Lent : Type 0
-Lent = Both (Bor (List ℕ)) (Bor (List ℕ))
+Lent = Both (MutBor (List ℕ)) (MutBor (List ℕ))
 
 abbrev pub entered : Lent → Lent → Lent → Lent → Tables
 entered b br fr cr = tables b.entry.now br.entry.now fr.entry.now cr.entry.now
@@ -163,10 +163,9 @@ entered b br fr cr = tables b.entry.now br.entry.now fr.entry.now cr.entry.now
 abbrev pub left : Lent → Lent → Lent → Lent → Tables
 left b br fr cr = tables b.exit.now br.exit.now fr.exit.now cr.exit.now
 
-abbrev pub KeepsInto : Call → Lent → Lent → Lent → Lent → Lent → Answer → Type 0
-KeepsInto call b br fr cr buffer answer =
-    Promise call (entered b br fr cr) buffer.entry.now (record { answer = answer; buffer = buffer.exit.now; tables = left b br fr cr })
+-- from the tables as the call was lent them to the tables as it leaves them; so too the buffer
+abbrev pub KeepsInto : Call → Tables → Tables → List ℕ → List ℕ → Answer → Type 0
+KeepsInto call t t' buffer buffer' answer = Promise call t buffer (record { answer = answer; buffer = buffer'; tables = t' })
 
-abbrev pub Keeps : Call → Lent → Lent → Lent → Lent → Answer → Type 0
-Keeps call b br fr cr answer =
-    Promise call (entered b br fr cr) [] (record { answer = answer; buffer = []; tables = left b br fr cr })
+abbrev pub Keeps : Call → Tables → Tables → Answer → Type 0
+Keeps call t t' answer = Promise call t [] (record { answer = answer; buffer = []; tables = t' })

@@ -1,7 +1,8 @@
 // A name judged, located and its record found: what every call on names begins with.
 #![tactic(auto)]
+ghost use Rattle.meaning.specs.Tables.{tables};
 ghost use Rattle.meaning.specs.Name.{syllables};
-ghost use Rattle.meaning.specs.Run.{entered};
+
 ghost use Rattle.names.specs.FormLaws.{Counted};
 ghost use Rattle.lookup.specs.Filed.{filed, Shelves};
 ghost use Rattle.naming.specs.Judged.{OnName};
@@ -27,7 +28,7 @@ pub fn judge_name(
     channel_records: &[u8],
     name: &[u8],
 ) -> Judged
-    ensures { OnName (entered blocks block_records file_records channel_records) name.now result }
+    ensures { OnName (tables blocks.now block_records.now file_records.now channel_records.now) name.now result }
 {
     if !is_sound(blocks, block_records, file_records, channel_records) {
         return Judged::Refused(Report::NotAStore);

@@ -1,5 +1,6 @@
 // The calls that open a channel by a name.
 #![tactic(auto)]
+ghost use Rattle.meaning.specs.Tables.{tables};
 ghost use Rattle.meaning.specs.Run.{Keeps, Call, entered};
 ghost use Rattle.meaning.specs.Answers.{opened};
 ghost use Rattle.opening.specs.Open.{Decided};
@@ -27,7 +28,7 @@ fn decide_open(
     channel_records: &[u8],
     name: &[u8],
 ) -> Opening
-    ensures { Decided (entered blocks block_records file_records channel_records) name.now result }
+    ensures { Decided (tables blocks.now block_records.now file_records.now channel_records.now) name.now result }
 {
     let judged = judge_name(blocks, block_records, file_records, channel_records, name);
     match judged {
@@ -54,7 +55,7 @@ pub fn open(
     channel_records: &mut [u8],
     name: &[u8],
 ) -> Opened
-    ensures { Keeps (Call.Open name.now) blocks block_records file_records channel_records (opened result) }
+    ensures { Keeps (Call.Open name.now) (tables blocks.now block_records.now file_records.now channel_records.old) (tables blocks.now block_records.now file_records.now channel_records.new) (opened result) }
 {
     let decided = decide_open(blocks, block_records, file_records, channel_records, name);
     match decided {
@@ -92,7 +93,7 @@ fn decide_new(
     at: Located,
 ) -> Creating
     requires { NewName blocks.now block_records.now file_records.now channel_records.now name.now at }
-    ensures { Created (entered blocks block_records file_records channel_records) name.now result }
+    ensures { Created (tables blocks.now block_records.now file_records.now channel_records.now) name.now result }
 {
     let d = at.parent;
     if !is_directory(file_records, d) {
@@ -120,7 +121,7 @@ fn decide_create(
     channel_records: &[u8],
     name: &[u8],
 ) -> Creating
-    ensures { Created (entered blocks block_records file_records channel_records) name.now result }
+    ensures { Created (tables blocks.now block_records.now file_records.now channel_records.now) name.now result }
 {
     let judged = judge_name(blocks, block_records, file_records, channel_records, name);
     match judged {
@@ -157,7 +158,7 @@ pub fn create(
     channel_records: &mut [u8],
     name: &[u8],
 ) -> Opened
-    ensures { Keeps (Call.Create name.now) blocks block_records file_records channel_records (opened result) }
+    ensures { Keeps (Call.Create name.now) (entered blocks block_records file_records channel_records) (left blocks block_records file_records channel_records) (opened result) }
 {
     let decided = decide_create(blocks, block_records, file_records, channel_records, name);
     match decided {

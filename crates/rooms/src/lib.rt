@@ -1,6 +1,7 @@
 // What is free in a store, and a store prepared.
 #![tactic(auto)]
 ghost use Rattle.std.specs.Prelude.{◌≡◌, length, replicate};
+ghost use Rattle.meaning.specs.Tables.{tables};
 ghost use Rattle.meaning.specs.Run.{Keeps, Call};
 ghost use Rattle.meaning.specs.Answers.{reported, space_of};
 
@@ -15,7 +16,7 @@ pub fn room(
     file_records: &[u8],
     channel_records: &[u8],
 ) -> Space
-    ensures { Keeps Call.Room blocks block_records file_records channel_records (space_of result) }
+    ensures { Keeps Call.Room (tables blocks.now block_records.now file_records.now channel_records.now) (tables blocks.now block_records.now file_records.now channel_records.now) (space_of result) }
 {
     if !is_sound(blocks, block_records, file_records, channel_records) {
         return Space::Refused(Report::NotAStore);
@@ -44,7 +45,7 @@ pub fn prepare(
     file_records: &mut [u8],
     channel_records: &mut [u8],
 ) -> Report
-    ensures { Keeps Call.Prepare blocks block_records file_records channel_records (reported result) }
+    ensures { Keeps Call.Prepare (tables blocks.now block_records.old file_records.old channel_records.old) (tables blocks.now block_records.new file_records.new channel_records.new) (reported result) }
 {
     if !lengths_agree(blocks, block_records, file_records, channel_records) {
         return Report::NotAStore;

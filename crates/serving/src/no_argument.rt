@@ -1,7 +1,8 @@
 // Calls without argument, and lines that are no call.
 ghost use Rattle.std.specs.Prelude.{◌+◌, ◌≤◌, length};
 ghost use Rattle.std.proofs.Math.Option.{some};
-ghost use Rattle.meaning.specs.Run.{Call, entered, left};
+ghost use Rattle.meaning.specs.Tables.{tables};
+ghost use Rattle.meaning.specs.Run.{Call};
 ghost use Rattle.serving.specs.Kinds.{plain_call};
 ghost use Rattle.serving.specs.Serves.{Serves, line_room};
 
@@ -18,7 +19,7 @@ fn serve_prepare(
     at: usize,
 ) -> usize
     requires { at + line_room ≤ length out.old }
-    ensures { Serves (some Call.Prepare) (entered blocks block_records file_records channel_records) out.old at (left blocks block_records file_records channel_records) out.new result }
+    ensures { Serves (some Call.Prepare) (tables blocks.now block_records.old file_records.old channel_records.old) out.old at (tables blocks.now block_records.new file_records.new channel_records.new) out.new result }
 {
     let answer = prepare(blocks, block_records, file_records, channel_records);
     print_report(out, at, answer)
@@ -33,7 +34,7 @@ fn serve_room(
     at: usize,
 ) -> usize
     requires { at + line_room ≤ length out.old }
-    ensures { Serves (some Call.Room) (entered blocks block_records file_records channel_records) out.old at (left blocks block_records file_records channel_records) out.new result }
+    ensures { Serves (some Call.Room) (tables blocks.now block_records.now file_records.now channel_records.now) out.old at (tables blocks.now block_records.now file_records.now channel_records.now) out.new result }
 {
     let answer = room(blocks, block_records, file_records, channel_records);
     print_space(out, at, answer)
@@ -49,7 +50,7 @@ pub fn serve_plain(
     at: usize,
 ) -> usize
     requires { at + line_room ≤ length out.old }
-    ensures { Serves (plain_call k) (entered blocks block_records file_records channel_records) out.old at (left blocks block_records file_records channel_records) out.new result }
+    ensures { Serves (plain_call k) (tables blocks.now block_records.old file_records.old channel_records.old) out.old at (tables blocks.now block_records.new file_records.new channel_records.new) out.new result }
 {
     match k {
         Plain::Unknown => print_unknown(out, at),

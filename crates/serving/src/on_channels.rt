@@ -1,6 +1,7 @@
 // Calls on a channel.
 ghost use Rattle.std.specs.Prelude.{◌+◌, ◌≤◌, ◌≡◌, length};
 ghost use Rattle.std.proofs.Math.Option.{some};
+ghost use Rattle.meaning.specs.Tables.{tables};
 ghost use Rattle.meaning.specs.Run.{Call, entered, left};
 ghost use Rattle.text.specs.Line.{lent_bytes};
 ghost use Rattle.serving.specs.Kinds.{channel_call, ChannelFits};
@@ -39,7 +40,7 @@ fn serve_close(
     at: usize,
 ) -> usize
     requires { at + line_room ≤ length out.old }
-    ensures { Serves (some (Call.Close c)) (entered blocks block_records file_records channel_records) out.old at (left blocks block_records file_records channel_records) out.new result }
+    ensures { Serves (some (Call.Close c)) (tables blocks.now block_records.old file_records.old channel_records.old) out.old at (tables blocks.now block_records.new file_records.new channel_records.new) out.new result }
 {
     let answer = close(
         blocks,
@@ -61,7 +62,7 @@ fn serve_fstat(
     at: usize,
 ) -> usize
     requires { at + line_room ≤ length out.old }
-    ensures { Serves (some (Call.Fstat c)) (entered blocks block_records file_records channel_records) out.old at (left blocks block_records file_records channel_records) out.new result }
+    ensures { Serves (some (Call.Fstat c)) (tables blocks.now block_records.now file_records.now channel_records.now) out.old at (tables blocks.now block_records.now file_records.now channel_records.now) out.new result }
 {
     let answer = fstat(
         blocks,
@@ -85,7 +86,7 @@ fn serve_seek(
     at: usize,
 ) -> usize
     requires { at + line_room ≤ length out.old }
-    ensures { Serves (some (Call.Seek c mode n)) (entered blocks block_records file_records channel_records) out.old at (left blocks block_records file_records channel_records) out.new result }
+    ensures { Serves (some (Call.Seek c mode n)) (tables blocks.now block_records.now file_records.now channel_records.old) out.old at (tables blocks.now block_records.now file_records.now channel_records.new) out.new result }
 {
     let answer = seek(
         blocks,
@@ -112,7 +113,7 @@ fn read_into(
 ) -> usize
     requires buffer_len_bound { length buffer.old ≤ lent_bytes }
     requires line_room_in_bounds { at + line_room ≤ length out.old }
-    ensures { Serves (some (Call.Read c (length buffer.old))) (entered blocks block_records file_records channel_records) out.old at (left blocks block_records file_records channel_records) out.new result }
+    ensures { Serves (some (Call.Read c (length buffer.old))) (tables blocks.now block_records.now file_records.now channel_records.old) out.old at (tables blocks.now block_records.now file_records.now channel_records.new) out.new result }
 {
     let answer = read(
         blocks,
@@ -138,7 +139,7 @@ fn serve_read(
 ) -> usize
     requires count_le_lent_bytes { count ≤ lent_bytes }
     requires line_room_in_bounds { at + line_room ≤ length out.old }
-    ensures { Serves (some (Call.Read c count)) (entered blocks block_records file_records channel_records) out.old at (left blocks block_records file_records channel_records) out.new result }
+    ensures { Serves (some (Call.Read c count)) (tables blocks.now block_records.now file_records.now channel_records.old) out.old at (tables blocks.now block_records.now file_records.now channel_records.new) out.new result }
 {
     let mut space = lent();
     let size = count as usize;
@@ -189,7 +190,7 @@ pub fn serve_channel(
 ) -> usize
     requires channel_fits { ChannelFits k }
     requires line_room_in_bounds { at + line_room ≤ length out.old }
-    ensures { Serves (some (channel_call k)) (entered blocks block_records file_records channel_records) out.old at (left blocks block_records file_records channel_records) out.new result }
+    ensures { Serves (some (channel_call k)) (tables blocks.now block_records.old file_records.old channel_records.old) out.old at (tables blocks.now block_records.new file_records.new channel_records.new) out.new result }
 {
     match k {
         OnChannel::Close(c) => serve_close(

@@ -1,6 +1,7 @@
 // Calls on names.
 ghost use Rattle.std.specs.Prelude.{◌+◌, ◌≤◌, ◌≡◌, length};
 ghost use Rattle.std.proofs.Math.Option.{some};
+ghost use Rattle.meaning.specs.Tables.{tables};
 ghost use Rattle.meaning.specs.Run.{Call, entered, left};
 ghost use Rattle.text.specs.Line.{lent_bytes};
 ghost use Rattle.text.specs.Commands.{part, Within};
@@ -44,7 +45,7 @@ fn serve_open(
     at: usize,
 ) -> usize
     requires { at + line_room ≤ length out.old }
-    ensures { Serves (some (Call.Open name.now)) (entered blocks block_records file_records channel_records) out.old at (left blocks block_records file_records channel_records) out.new result }
+    ensures { Serves (some (Call.Open name.now)) (tables blocks.now block_records.now file_records.now channel_records.old) out.old at (tables blocks.now block_records.now file_records.now channel_records.new) out.new result }
 {
     let answer = open(blocks, block_records, file_records, channel_records, name);
     print_opened(out, at, answer)
@@ -60,7 +61,7 @@ fn serve_unlink(
     at: usize,
 ) -> usize
     requires { at + line_room ≤ length out.old }
-    ensures { Serves (some (Call.Unlink name.now)) (entered blocks block_records file_records channel_records) out.old at (left blocks block_records file_records channel_records) out.new result }
+    ensures { Serves (some (Call.Unlink name.now)) (tables blocks.old block_records.old file_records.old channel_records.now) out.old at (tables blocks.new block_records.new file_records.new channel_records.now) out.new result }
 {
     let answer = unlink(blocks, block_records, file_records, channel_records, name);
     print_report(out, at, answer)
@@ -76,7 +77,7 @@ fn serve_mkdir(
     at: usize,
 ) -> usize
     requires { at + line_room ≤ length out.old }
-    ensures { Serves (some (Call.Mkdir name.now)) (entered blocks block_records file_records channel_records) out.old at (left blocks block_records file_records channel_records) out.new result }
+    ensures { Serves (some (Call.Mkdir name.now)) (tables blocks.old block_records.old file_records.old channel_records.now) out.old at (tables blocks.new block_records.new file_records.new channel_records.now) out.new result }
 {
     let answer = mkdir(blocks, block_records, file_records, channel_records, name);
     print_report(out, at, answer)
@@ -92,7 +93,7 @@ fn serve_rmdir(
     at: usize,
 ) -> usize
     requires { at + line_room ≤ length out.old }
-    ensures { Serves (some (Call.Rmdir name.now)) (entered blocks block_records file_records channel_records) out.old at (left blocks block_records file_records channel_records) out.new result }
+    ensures { Serves (some (Call.Rmdir name.now)) (tables blocks.old block_records.old file_records.old channel_records.now) out.old at (tables blocks.new block_records.new file_records.new channel_records.now) out.new result }
 {
     let answer = rmdir(blocks, block_records, file_records, channel_records, name);
     print_report(out, at, answer)
@@ -121,7 +122,7 @@ fn ls_into(
 ) -> usize
     requires buffer_len_bound { length buffer.old ≤ lent_bytes }
     requires line_room_in_bounds { at + line_room ≤ length out.old }
-    ensures { Serves (some (Call.Ls name.now (length buffer.old))) (entered blocks block_records file_records channel_records) out.old at (left blocks block_records file_records channel_records) out.new result }
+    ensures { Serves (some (Call.Ls name.now (length buffer.old))) (tables blocks.now block_records.now file_records.now channel_records.now) out.old at (tables blocks.now block_records.now file_records.now channel_records.now) out.new result }
 {
     let answer = ls(
         blocks,
@@ -145,7 +146,7 @@ fn serve_ls(
     at: usize,
 ) -> usize
     requires { at + line_room ≤ length out.old }
-    ensures { Serves (some (Call.Ls name.now lent_bytes)) (entered blocks block_records file_records channel_records) out.old at (left blocks block_records file_records channel_records) out.new result }
+    ensures { Serves (some (Call.Ls name.now lent_bytes)) (tables blocks.now block_records.now file_records.now channel_records.now) out.old at (tables blocks.now block_records.now file_records.now channel_records.now) out.new result }
 {
     let mut space = lent();
     ls_into(
@@ -242,7 +243,7 @@ fn serve_link(
     at: usize,
 ) -> usize
     requires { at + line_room ≤ length out.old }
-    ensures { Serves (some (Call.Link old.now new.now)) (entered blocks block_records file_records channel_records) out.old at (left blocks block_records file_records channel_records) out.new result }
+    ensures { Serves (some (Call.Link old.now new.now)) (tables blocks.old block_records.old file_records.old channel_records.now) out.old at (tables blocks.new block_records.new file_records.new channel_records.now) out.new result }
 {
     let answer = link(
         blocks,
@@ -266,7 +267,7 @@ fn serve_move(
     at: usize,
 ) -> usize
     requires { at + line_room ≤ length out.old }
-    ensures { Serves (some (Call.Move old.now new.now)) (entered blocks block_records file_records channel_records) out.old at (left blocks block_records file_records channel_records) out.new result }
+    ensures { Serves (some (Call.Move old.now new.now)) (tables blocks.old block_records.old file_records.old channel_records.now) out.old at (tables blocks.new block_records.new file_records.new channel_records.now) out.new result }
 {
     let answer = move_name(
         blocks,
@@ -291,7 +292,7 @@ fn serve_pair(
     at: usize,
 ) -> usize
     requires { at + line_room ≤ length out.old }
-    ensures { Serves (some (names_call k old.now new.now)) (entered blocks block_records file_records channel_records) out.old at (left blocks block_records file_records channel_records) out.new result }
+    ensures { Serves (some (names_call k old.now new.now)) (tables blocks.old block_records.old file_records.old channel_records.now) out.old at (tables blocks.new block_records.new file_records.new channel_records.now) out.new result }
 {
     match k {
         OnNames::Link => serve_link(
@@ -333,7 +334,7 @@ pub fn serve_names(
     requires within { Within line.now old }
     requires within_2 { Within line.now new }
     requires line_room_in_bounds { at + line_room ≤ length out.old }
-    ensures { Serves (some (names_call k (part line.now old) (part line.now new))) (entered blocks block_records file_records channel_records) out.old at (left blocks block_records file_records channel_records) out.new result }
+    ensures { Serves (some (names_call k (part line.now old) (part line.now new))) (tables blocks.old block_records.old file_records.old channel_records.now) out.old at (tables blocks.new block_records.new file_records.new channel_records.now) out.new result }
 {
     let from = old.from;
     let to = old.to;

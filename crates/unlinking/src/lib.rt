@@ -1,6 +1,7 @@
 // The call that takes a name from its file.
 #![tactic(auto)]
-ghost use Rattle.meaning.specs.Run.{Keeps, Call, entered};
+ghost use Rattle.meaning.specs.Tables.{tables};
+ghost use Rattle.meaning.specs.Run.{Keeps, Call};
 ghost use Rattle.meaning.specs.Answers.{reported};
 ghost use Rattle.unlinking.specs.Unlink.{Decided};
 
@@ -27,7 +28,7 @@ fn decide_unlink(
     channel_records: &[u8],
     name: &[u8],
 ) -> Unlinking
-    ensures { Decided (entered blocks block_records file_records channel_records) name.now result }
+    ensures { Decided (tables blocks.now block_records.now file_records.now channel_records.now) name.now result }
 {
     let judged = judge_name(blocks, block_records, file_records, channel_records, name);
     match judged {
@@ -57,7 +58,7 @@ pub fn unlink(
     channel_records: &[u8],
     name: &[u8],
 ) -> Report
-    ensures { Keeps (Call.Unlink name.now) blocks block_records file_records channel_records (reported result) }
+    ensures { Keeps (Call.Unlink name.now) (tables blocks.old block_records.old file_records.old channel_records.now) (tables blocks.new block_records.new file_records.new channel_records.now) (reported result) }
 {
     let decided = decide_unlink(blocks, block_records, file_records, channel_records, name);
     match decided {

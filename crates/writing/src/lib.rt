@@ -1,6 +1,7 @@
 // Writing on a channel.
 #![tactic(auto)]
 ghost use Rattle.std.specs.Prelude.{◌≡◌, ◌+◌, ◌-◌, ◌≤◌, max, length, ltb};
+ghost use Rattle.meaning.specs.Tables.{tables};
 ghost use Rattle.meaning.specs.File.{needed, longest};
 ghost use Rattle.meaning.specs.Run.{Keeps, Call, entered};
 ghost use Rattle.meaning.specs.Answers.{counted};
@@ -48,7 +49,7 @@ fn decide_write(
     c: ChannelNo,
     n: usize,
 ) -> Writing
-    ensures { Decided (entered blocks block_records file_records channel_records) c.0 n result }
+    ensures { Decided (tables blocks.now block_records.now file_records.now channel_records.now) c.0 n result }
 {
     let held = held_channel(blocks, block_records, file_records, channel_records, c);
     match held {
@@ -80,7 +81,7 @@ pub fn write(
     c: ChannelNo,
     data: &[u8],
 ) -> Counted
-    ensures { Keeps (Call.Write c.0 «data».now) blocks block_records file_records channel_records (counted result) }
+    ensures { Keeps (Call.Write c.0 «data».now) (entered blocks block_records file_records channel_records) (left blocks block_records file_records channel_records) (counted result) }
 {
     let n = data.len();
     let decided = decide_write(blocks, block_records, file_records, channel_records, c, n);

@@ -3,7 +3,6 @@ use Prim.Native.Nat.{ℕ, ◌-◌, ◌<◌}
 use mathlib.Core.Path.{◌≡◌, sym, ◌∙◌}
 use mathlib.Core.List.{List, []}
 use native.Mathlib.Omega.{arith}
-use borrow.Author.Rules.{rules}
 use Rattle.records.specs.Numbers.{with_record}
 use Rattle.meaning.specs.File.{needed}
 use Rattle.meaning.specs.Store.{file}
@@ -11,8 +10,7 @@ use Rattle.meaning.specs.Tables.{tables, file_length, file_record, released, tak
 use Rattle.blocks.specs.RunLaws.{laid-whole, laid_run_none}
 use Rattle.files.specs.Files.{cleared}
 use Rattle.files.specs.PutLaws.{put-tables}
-use Rattle.files.proofs.clear_file.Statement.{statement}
-use Rattle.files.proofs.clear_file.Tie as tie
+use Rattle.files.proofs.clear_file.Goals as goal
 
 no_places : (records : List ℕ) (f old : ℕ) → resized records f old 0 ≡ released records f 0
 unfolding resized taken_from
@@ -29,22 +27,5 @@ has_cleared records files f kind depth some next next-files is is-files blocks c
     let b : laid blocks (resized records f (file_length files f) 0) f [] ≡ blocks = nothing-laid blocks (resized records f (file_length files f) 0) f in
     sym (put-tables (tables blocks records files channels) f (cleared kind depth) some ∙ (λ i. tables (b i) (r i) (sym is-files i) channels))
 
-release-from-requires : tie.Need-release-from-requires
-release-from-requires c κs = search rules
-
-put-file-record-requires : tie.Need-put-file-record-requires
-put-file-record-requires c κs = search rules
-
-same_length : tie.Need-same-length
-same_length c = search rules
-
-same-length-2 : tie.Need-same-length-2
-same-length-2 c = search rules
-
-returns : tie.Need-returns
+pub returns : goal.returns
 returns c = λ blocks channels. search has_cleared
-
-pub clear-file-spec : {M : Type 1} → statement M
-clear-file-spec =
-    tie.close
-    (tie.spec release-from-requires put-file-record-requires same_length same-length-2 returns)

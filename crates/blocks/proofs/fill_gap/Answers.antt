@@ -1,4 +1,3 @@
--- The first `done` zeros are laid; the measure is how many are left.
 use Prim.Native.Nat.{ℕ, ◌+◌, ◌-◌, ◌≤◌, ◌<◌}
 use mathlib.Core.Path.{◌≡◌, refl, sym, ap, ◌∙◌}
 use mathlib.Core.List.{List, ◌++◌}
@@ -10,8 +9,7 @@ use Rattle.meaning.specs.File.{zero_bytes}
 use Rattle.meaning.specs.FileLaws.{length-zeros}
 use Rattle.blocks.specs.Runs.{in_block, laid_run, Housed, Moving}
 use Rattle.blocks.specs.InBlock.{byte_fits, housed_part, laid_start, laid_next, laid_end}
-use Rattle.blocks.proofs.fill_gap.Statement.{statement}
-use Rattle.blocks.proofs.fill_gap.Tie as tie
+use Rattle.blocks.proofs.fill_gap.Goals as goal
 
 -- a part of a row of zeros
 part-zeros : (d m n : ℕ) → d + m ≤ n → take m (drop d (zero_bytes n)) ≡ zero_bytes m
@@ -47,56 +45,23 @@ module _ (blocks₀ records : List ℕ) (f at n : ℕ) (blank : List ℕ) (is_bl
   all_zeros : blocks ≡ laid_run blocks₀ records f at (take done (zero_bytes n)) → n ≤ done → blocks ≡ laid_run blocks₀ records f at (zero_bytes n)
   all_zeros so_far h = laid_end blocks₀ records f at (zero_bytes n) blocks done so_far (omega (arith, length-zeros n))
 
-abbrev invariant-loop : tie.invariant-loop
-invariant-loop blocks₀ block_records_lem f at n blank done₀ blocks done =
-    (blank ≡ zero_bytes 512) × (done ≤ n) × (length blocks ≡ length blocks₀) × (blocks ≡ laid_run blocks₀ block_records_lem f.0 at (take done (zero_bytes n)))
+pub loop-done-init : goal.loop-done-init
+loop-done-init c = (refl, omega arith, refl, search laid_start)
 
-abbrev decreases-loop : tie.decreases-loop
-decreases-loop blocks₀ block_records_lem f at n blank done₀ blocks done = n - done
+pub overflow_add-at : goal.overflow_add-at
+overflow_add-at c = search byte_fits
 
-loop-holds : tie.Need-loop-init invariant-loop decreases-loop
-loop-holds c = (refl, omega arith, refl, search laid_start)
+pub slice_bounds-lay_in_block-end : goal.slice_bounds-lay_in_block-end
+slice_bounds-lay_in_block-end c = refl
 
-add-lay-in-block : tie.Need-overflow-add-lay-in-block invariant-loop decreases-loop
-add-lay-in-block c = search byte_fits
+pub lay_in_block-done-requires : goal.lay_in_block-done-requires
+lay_in_block-done-requires c = search ready
 
-sub-lay-in-block : tie.Need-overflow-sub-lay-in-block invariant-loop decreases-loop
-sub-lay-in-block c = omega arith
+pub loop-done-preserved : goal.loop-done-preserved
+loop-done-preserved c = (refl, omega arith, search rules, search next-zeros)
 
-slice-aggregate-lay-in-block : tie.Need-slice-aggregate-lay-in-block invariant-loop decreases-loop
-slice-aggregate-lay-in-block c = refl
+pub shape_of-blocks : goal.shape_of-blocks
+shape_of-blocks c = c.loop-done.invariant.2
 
-lay-in-block-requires : tie.Need-lay-in-block-requires invariant-loop decreases-loop
-lay-in-block-requires c κs = search ready
-
-add_done : tie.Need-overflow-add-done invariant-loop decreases-loop
-add_done c = omega arith
-
-loop-less : tie.Need-loop-smaller invariant-loop decreases-loop
-loop-less c = omega arith
-
-loop-again : tie.Need-loop-preserved invariant-loop decreases-loop
-loop-again c = (refl, omega arith, search rules, search next-zeros)
-
-same_length : tie.Need-same-length invariant-loop decreases-loop
-same_length c = c.before.loop.invariant.2
-
-returns : tie.Need-returns invariant-loop decreases-loop
+pub returns : goal.returns
 returns c = search all_zeros
-
-pub fill-gap-spec : {M : Type 1} → statement M
-fill-gap-spec =
-    tie.close
-    (tie.spec
-    invariant-loop
-    decreases-loop
-    loop-holds
-    add-lay-in-block
-    sub-lay-in-block
-    slice-aggregate-lay-in-block
-    lay-in-block-requires
-    add_done
-    loop-less
-    loop-again
-    same_length
-    returns)

@@ -3,7 +3,6 @@ use Prim.Native.Nat.{ℕ, ◌+◌, ◌-◌, ◌/◌, ◌≤◌, ◌<◌, min}
 use mathlib.Core.Path.{◌≡◌, sym, ap, ◌∙◌}
 use mathlib.Core.List.{List}
 use native.Mathlib.Omega.{arith}
-use borrow.Author.Rules.{rules}
 use lib.ListN.{length}
 use Rattle.meaning.specs.File.{readFILE, over}
 use Rattle.meaning.specs.Tables.{tables, store_of, length_at, file_length}
@@ -12,8 +11,7 @@ use Rattle.layout.specs.Counting.{needs_within}
 use Rattle.blocks.specs.Runs.{run_of, Housed}
 use Rattle.blocks.specs.ReadLaws.{length-run_of, read-bytes}
 use Rattle.files.specs.Files.{HasFile, Reads}
-use Rattle.files.proofs.read_file.Statement.{statement}
-use Rattle.files.proofs.read_file.Tie as tie
+use Rattle.files.proofs.read_file.Goals as goal
 
 module _ (blocks records files : List ℕ) (f at : ℕ) (has : HasFile blocks records files f) (size : ℕ) (is-size : size ≡ length_at files (f - 1))
     (left : ℕ) (is-left : left ≡ size - at) (buffer : List ℕ) (n : ℕ) (is-count : n ≡ min (length buffer) left) where
@@ -44,39 +42,8 @@ module _ (blocks records files : List ℕ) (f at : ℕ) (has : HasFile blocks re
         fills = λ channels. rw (as_read channels) e;
       }
 
-file-record-requires : tie.Need-file-record-requires
-file-record-requires c κs = search rules
+pub read_run-requires : goal.read_run-requires
+read_run-requires c = record { housed = search read_housed; n_in_bounds = omega arith }
 
-cast-beyond : tie.Need-overflow-cast-beyond
-cast-beyond c = search rules
-
-beyond-requires : tie.Need-beyond-requires
-beyond-requires c κs = search rules
-
-smaller-requires : tie.Need-smaller-requires
-smaller-requires c κs = search rules
-
-read-run-requires : tie.Need-read-run-requires
-read-run-requires c κs = (search read_housed, omega arith)
-
-cast-result : tie.Need-overflow-cast-result
-cast-result c = search rules
-
-same_length : tie.Need-same-length
-same_length c = search rules
-
-returns : tie.Need-returns
+pub returns : goal.returns
 returns c = search has_read
-
-pub read-file-spec : {M : Type 1} → statement M
-read-file-spec =
-    tie.close
-    (tie.spec
-    file-record-requires
-    cast-beyond
-    beyond-requires
-    smaller-requires
-    read-run-requires
-    cast-result
-    same_length
-    returns)

@@ -3,15 +3,13 @@ use Prim.Native.Nat.{ℕ}
 use mathlib.Core.Path.{◌≡◌, ◌∙◌}
 use mathlib.Core.List.{List}
 use mathlib.Core.Bool.{true, false}
-use borrow.Author.Rules.{rules}
 use lib.Dec.{eqb}
 use borrow.Author.Tests.{eq-eqb, ne_eqb}
 use Rattle.records.specs.Numbers.{with_record}
 use Rattle.records.specs.Tests.{and_false}
 use Rattle.meaning.specs.Tables.{owner, place, holds, is_free, block_record}
 use Rattle.blocks.specs.Places.{taken_at, Took}
-use Rattle.blocks.proofs.take_block.Statement.{statement}
-use Rattle.blocks.proofs.take_block.Tie as tie
+use Rattle.blocks.proofs.take_block.Goals as goal
 
 module _ (records : List ℕ) (f i b o p : ℕ) (is-owner : o ≡ owner records b) (is-place : p ≡ place records b) where
   free : o ≡ 0 → p ≡ 0 → is_free records b ≡ true
@@ -34,39 +32,11 @@ module _ (records : List ℕ) (f i b o p : ℕ) (is-owner : o ≡ owner records 
   unfolding holds
   a_file's_block d = not_free (rw (← is-owner, ne_eqb o 0 d))
 
-block-record-requires : tie.Need-block-record-requires
-block-record-requires c κs = search rules
+pub returns-then-record-eq0-2 : goal.returns-then-record-eq0-2
+returns-then-record-eq0-2 c = search a_free_block
 
-put-block-record-requires : tie.Need-put-block-record-requires
-put-block-record-requires c κs = search rules
+pub returns-else-record-eq0-2 : goal.returns-else-record-eq0-2
+returns-else-record-eq0-2 c = search a_later_place
 
-same_length : tie.Need-same-length
-same_length c = search rules
-
-returns : tie.Need-returns
-returns c = search a_free_block
-
-same-length-2 : tie.Need-same-length-2
-same-length-2 c = search rules
-
-returns-2 : tie.Need-returns-2
-returns-2 c = search a_later_place
-
-same-length-3 : tie.Need-same-length-3
-same-length-3 c = search rules
-
-returns-3 : tie.Need-returns-3
-returns-3 c = search a_file's_block
-
-pub take-block-spec : {M : Type 1} → statement M
-take-block-spec =
-    tie.close
-    (tie.spec
-    block-record-requires
-    put-block-record-requires
-    same_length
-    returns
-    same-length-2
-    returns-2
-    same-length-3
-    returns-3)
+pub returns-else-record-eq0 : goal.returns-else-record-eq0
+returns-else-record-eq0 c = search a_file's_block

@@ -1,0 +1,2 @@
+pub mod ReleaseSteps
+pub mod TakeSteps
