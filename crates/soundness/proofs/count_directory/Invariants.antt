@@ -1,0 +1,10 @@
+-- Each count is what it was and the names that the records passed give; the measure is how many records are left.
+use Prim.Native.Nat.{◌-◌, ◌≤◌}
+use Rattle.soundness.specs.Rules.{Counted}
+use Rattle.soundness.proofs.count_directory.Given as goal
+
+abbrev pub invariant-loop-i : goal.invariant-loop-i
+invariant-loop-i l = (l.i ≤ l.n) × Counted l.blocks l.starts l.i l.initial.counts l.counts
+
+abbrev pub decreases-loop-i : goal.decreases-loop-i
+decreases-loop-i l = l.n - l.i
