@@ -5,7 +5,6 @@ use mathlib.Core.Logic.{◌≢◌}
 use mathlib.Core.List.{List}
 use mathlib.Core.Bool.{Bool, true, false}
 use lib.Dec.{ltb}
-use borrow.Author.Rules.{rules}
 use borrow.Author.Tests.{ne_eqb}
 use Rattle.meaning.specs.Store.{Store, names}
 use Rattle.meaning.specs.Tables.{tables, store_of}
@@ -14,8 +13,7 @@ use Rattle.tables.specs.StoreLaws.{held-channels}
 use Rattle.soundness.specs.Slots.{directories_store}
 use Rattle.lookup.specs.Filed.{names-seen}
 use Rattle.counts.specs.Gone.{gone_with}
-use Rattle.counts.proofs.gone_with.Statement.{statement}
-use Rattle.counts.proofs.gone_with.Tie as tie
+use Rattle.counts.proofs.gone_with.Goals as goal
 
 module _ (b br fr cr : List ℕ) (f m : ℕ) (counted : m ≡ names (directories_store b br fr) f) where
   abbrev s : Store
@@ -37,21 +35,11 @@ module _ (b br fr cr : List ℕ) (f m : ℕ) (counted : m ≡ names (directories
     unfolding gone_with
     not_held so = rw (its_names, one, held-channels (tables b br fr cr) f, ← e, so)
 
-names-of-requires : tie.Need-names-of-requires
-names-of-requires c κs = search rules
+pub returns-then-names_of-ne1 : goal.returns-then-names_of-ne1
+returns-then-names_of-ne1 c = search more_names
 
-returns : tie.Need-returns
-returns c = search more_names
+pub returns-then-is_held : goal.returns-then-is_held
+returns-then-is_held c = search still_held
 
-is-held-requires : tie.Need-is-held-requires
-is-held-requires c κs = search rules
-
-returns-2 : tie.Need-returns-2
-returns-2 c = search still_held
-
-returns-3 : tie.Need-returns-3
-returns-3 c = search not_held
-
-pub gone-with-spec : {M : Type 1} → statement M
-gone-with-spec =
-    tie.close (tie.spec names-of-requires returns is-held-requires returns-2 returns-3)
+pub returns : goal.returns
+returns c = search not_held

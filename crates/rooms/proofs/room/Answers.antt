@@ -19,8 +19,7 @@ use Rattle.tables.specs.StoreLaws.{free_files_lem, free_channels_lem}
 use Rattle.layout.specs.Lengths.{Lengths}
 use Rattle.layout.specs.Layout.{sound_layout}
 use Rattle.layout.specs.Counting.{free_block_count_lem}
-use Rattle.rooms.proofs.room.Statement.{statement}
-use Rattle.rooms.proofs.room.Tie as tie
+use Rattle.rooms.proofs.room.Goals as goal
 
 module _ (b br fr cr : List ℕ) (ok : Bool) (is : ok ≡ sound (tables b br fr cr)) where
   abbrev t : Tables
@@ -57,43 +56,17 @@ module _ (b br fr cr : List ℕ) (ok : Bool) (is : ok ≡ sound (tables b br fr 
         rw (is_sound, e, f, c, free_block_count_lem t (sound_layout t is_sound), free_files_lem t, free_channels_lem t) in
         kept_done Call.Room t [] (blocks ∷ files ∷ channels ∷ []) [] [] means t refl
 
-is-sound-requires : tie.Need-is-sound-requires
-is-sound-requires c κs = search rules
+pub returns-then-not-is_sound : goal.returns-then-not-is_sound
+returns-then-not-is_sound c = search unsound
 
-returns : tie.Need-returns
-returns c = search unsound
+pub overflow_cast-result : goal.overflow_cast-result
+overflow_cast-result c = let few : c.count_free_blocks-free.result ≤ 128 = search few-blocks in search rules
 
-count-free-blocks-requires : tie.Need-count-free-blocks-requires
-count-free-blocks-requires c κs = search rules
+pub overflow_cast-result-2 : goal.overflow_cast-result-2
+overflow_cast-result-2 c = let few : c.count_files-files.result ≤ 64 = search few-files in search rules
 
-count-files-requires : tie.Need-count-files-requires
-count-files-requires c κs = search rules
+pub overflow_cast-result-3 : goal.overflow_cast-result-3
+overflow_cast-result-3 c = let few : c.count_channels-channels.result ≤ 16 = search few-channels in search rules
 
-count-channels-requires : tie.Need-count-channels-requires
-count-channels-requires c κs = search rules
-
-cast-t12 : tie.Need-overflow-cast-t12
-cast-t12 c = let few : c.before.before.count-free-blocks.result ≤ 128 = search few-blocks in search rules
-
-cast-t13 : tie.Need-overflow-cast-t13
-cast-t13 c = let few : c.before.count-files.result ≤ 64 = search few-files in search rules
-
-cast-t14 : tie.Need-overflow-cast-t14
-cast-t14 c = let few : c.count-channels.result ≤ 16 = search few-channels in search rules
-
-returns-2 : tie.Need-returns-2
-returns-2 c = search free
-
-pub room-spec : {M : Type 1} → statement M
-room-spec =
-    tie.close
-    (tie.spec
-    is-sound-requires
-    returns
-    count-free-blocks-requires
-    count-files-requires
-    count-channels-requires
-    cast-t12
-    cast-t13
-    cast-t14
-    returns-2)
+pub returns : goal.returns
+returns c = search free

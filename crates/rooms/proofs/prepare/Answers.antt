@@ -4,7 +4,6 @@ use mathlib.Core.Path.{◌≡◌, refl, sym, ap, ◌∙◌}
 use mathlib.Core.List.{List, [], ◌∷◌}
 use mathlib.Core.Bool.{Bool, true, false, not}
 use native.Mathlib.Omega.{arith}
-use borrow.Author.Rules.{rules}
 use borrow.Author.Tests.{not-true, not-false}
 use lib.ListN.{length, replicate}
 use Rattle.records.specs.Numbers.{with_record}
@@ -18,8 +17,7 @@ use Rattle.meaning.specs.Answers.{reported}
 use Rattle.meaning.specs.PromiseLaws.{kept_report, kept_done}
 use Rattle.meaning.specs.declared.Report.TheVariants.{Ok, NotAStore}
 use Rattle.layout.specs.Lengths.{lengths_agree_lem}
-use Rattle.rooms.proofs.prepare.Statement.{statement}
-use Rattle.rooms.proofs.prepare.Tie as tie
+use Rattle.rooms.proofs.prepare.Goals as goal
 
 module _ (b br fr cr : List ℕ) (ok : Bool) (is : ok ≡ lengths_agree (tables b br fr cr)) where
   abbrev t : Tables
@@ -39,59 +37,11 @@ module _ (b br fr cr : List ℕ) (ok : Bool) (is : ok ≡ lengths_agree (tables 
       prepares =
           kept_done Call.Prepare t [] [] [] (prepared ∷ []) (rw (sym is ∙ not-false ok so)) (tables b br' fr' cr') (rw (zero-blocks, root, blanked, zero-channels))
 
-lengths-agree-requires : tie.Need-lengths-agree-requires
-lengths-agree-requires c κs = search rules
+pub returns-then-not-lengths_agree : goal.returns-then-not-lengths_agree
+returns-then-not-lengths_agree c = search disagree
 
-same_length : tie.Need-same-length
-same_length c = search rules
+pub put_file_record-requires : goal.put_file_record-requires
+put_file_record-requires c = (omega arith, search root_there)
 
-same-length-2 : tie.Need-same-length-2
-same-length-2 c = search rules
-
-same-length-3 : tie.Need-same-length-3
-same-length-3 c = search rules
-
-returns : tie.Need-returns
-returns c = search disagree
-
-blank-records-requires : tie.Need-blank-records-requires
-blank-records-requires c κs = search rules
-
-blank-records-requires-2 : tie.Need-blank-records-requires-2
-blank-records-requires-2 c κs = search rules
-
-blank-records-requires-3 : tie.Need-blank-records-requires-3
-blank-records-requires-3 c κs = search rules
-
-put-file-record-requires : tie.Need-put-file-record-requires
-put-file-record-requires c κs = (omega arith, search root_there)
-
-same-length-4 : tie.Need-same-length-4
-same-length-4 c = search rules
-
-same-length-5 : tie.Need-same-length-5
-same-length-5 c = search rules
-
-same-length-6 : tie.Need-same-length-6
-same-length-6 c = search rules
-
-returns-2 : tie.Need-returns-2
-returns-2 c = search prepares
-
-pub prepare-spec : {M : Type 1} → statement M
-prepare-spec =
-    tie.close
-    (tie.spec
-    lengths-agree-requires
-    same_length
-    same-length-2
-    same-length-3
-    returns
-    blank-records-requires
-    blank-records-requires-2
-    blank-records-requires-3
-    put-file-record-requires
-    same-length-4
-    same-length-5
-    same-length-6
-    returns-2)
+pub returns : goal.returns
+returns c = search prepares
