@@ -1,7 +1,7 @@
 -- IsDirectory is reported exactly where a directory is named or held, and no earlier cause holds.
 use Rattle.std.specs.Prelude.{ℕ, ◌≡◌, refl, ◌⊎◌, ◌↔◌, List, true, false, not, eqb}
 use Rattle.std.proofs.Common.{sym, ap, ◌∙◌, inl, inr, ⊎_elim}
-use Rattle.std.proofs.Math.Logic.{Iff·trans}
+use Rattle.std.proofs.Math.Logic.Iff
 use Rattle.std.proofs.Math.Option.{some}
 use borrow.Author.Tests.{eqb-true, eq-eqb, ne_eqb, not-false}
 use Rattle.records.specs.Tests.{tested}
@@ -57,15 +57,15 @@ unlink-directory : (s : Store) (bytes : List ℕ) (name : NAME) → syllables by
 unfolding unlink number_of
 unlink-directory s bytes name e =
     reported-named IsDirectory _ name _ _ e
-    (Iff·trans (reported_later IsDirectory (missing s name) NoSuchName _ (other_report NoSuchName IsDirectory refl))
-    (Iff·trans (in_second (reported-first IsDirectory (is_directory s (named s name)) _ (done_directory _ _ _))) (directory-named s name)))
+    (Iff.trans (reported_later IsDirectory (missing s name) NoSuchName _ (other_report NoSuchName IsDirectory refl))
+    (Iff.trans (in_second (reported-first IsDirectory (is_directory s (named s name)) _ (done_directory _ _ _))) (directory-named s name)))
 
 create-directory : (s : Store) (bytes : List ℕ) (name : NAME) → syllables bytes ≡ some name → (report_of (create bytes s) ≡ IsDirectory) ↔ ((view s).dnames name ≡ true)
 unfolding create number_of
 create-directory s bytes name e =
     reported-named IsDirectory _ name _ _ e
-    (Iff·trans (reported_later IsDirectory (nowhere s name) NoSuchName _ (other_report NoSuchName IsDirectory refl))
-    (Iff·trans (in_second (reported-first IsDirectory (is_directory s (named s name)) _
+    (Iff.trans (reported_later IsDirectory (nowhere s name) NoSuchName _ (other_report NoSuchName IsDirectory refl))
+    (Iff.trans (in_second (reported-first IsDirectory (is_directory s (named s name)) _
     (never_unless IsDirectory _ NoFreeCids _ (other_report NoFreeCids IsDirectory refl)
     (⊎_elim
     (λ (gone : missing s name ≡ true). rw gone (never_unless IsDirectory _ NoFreeFids _ (other_report NoFreeFids IsDirectory refl) (naming_fits_directory s name _ _ (done_directory _ _ _))))
@@ -90,10 +90,10 @@ unfolding link number_of
 link-directory s ready old new from to e h =
     reported-named IsDirectory _ from _ _ e
     (reported-named IsDirectory _ to _ _ h
-    (Iff·trans (reported_later IsDirectory (missing s from) NoSuchName _ (other_report NoSuchName IsDirectory refl))
-    (Iff·trans
-    (in_second (Iff·trans (reported_twice IsDirectory (is_directory s (named s from)) _)
-    (in_right (Iff·trans (reported_later IsDirectory (nowhere s to) NoSuchName _ (other_report NoSuchName IsDirectory refl))
+    (Iff.trans (reported_later IsDirectory (missing s from) NoSuchName _ (other_report NoSuchName IsDirectory refl))
+    (Iff.trans
+    (in_second (Iff.trans (reported_twice IsDirectory (is_directory s (named s from)) _)
+    (in_right (Iff.trans (reported_later IsDirectory (nowhere s to) NoSuchName _ (other_report NoSuchName IsDirectory refl))
     (in_second (reported-first IsDirectory (is_directory s (named s to)) _ (naming_fits_directory s to _ _ (done_directory _ _ _))))))))
     (either_directory s from to))))
 
@@ -101,7 +101,7 @@ move-directory : (s : Store) → Ready s → (old new : List ℕ) (from to : NAM
     → (report_of (move old new s) ≡ IsDirectory) ↔ EitherDirectory (view s) from to
 unfolding number_of
 move-directory s ready old new from to e h =
-    Iff·trans (move_reports s ready old new IsDirectory (other_report Ok IsDirectory refl)) (link-directory s ready old new from to e h)
+    Iff.trans (move_reports s ready old new IsDirectory (other_report Ok IsDirectory refl)) (link-directory s ready old new from to e h)
 
 -- ---- write
 
@@ -134,8 +134,8 @@ module _ (s : Store) (ready : Ready s) (c : ℕ) where
 write-directory : (s : Store) → Ready s → (c : ℕ) (bytes : List ℕ) → (report_of (write c bytes s) ≡ IsDirectory) ↔ HoldsDirectory (view s) c
 unfolding write on_channel number_of
 write-directory s ready c bytes =
-    Iff·trans (reported_later IsDirectory (not (is_open s c)) NoSuchCid _ (other_report NoSuchCid IsDirectory refl))
-    (Iff·trans (in_second (reported-first IsDirectory (eqb (s.file (s.channel c).file).kind 2) _
+    Iff.trans (reported_later IsDirectory (not (is_open s c)) NoSuchCid _ (other_report NoSuchCid IsDirectory refl))
+    (Iff.trans (in_second (reported-first IsDirectory (eqb (s.file (s.channel c).file).kind 2) _
     (never_fits IsDirectory s _ _ _ (other_report TooBig IsDirectory refl) (other_report NoRoom IsDirectory refl) (done_directory _ _ _))))
     (holds-directory s ready c))
 

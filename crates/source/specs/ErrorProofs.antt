@@ -1,6 +1,6 @@
 -- The source's errors are reported exactly where they hold.
 use Rattle.std.specs.Prelude.{ℕ, ◌≡◌, refl, ◌≢◌, ◌↔◌, List, not}
-use Rattle.std.proofs.Math.Logic.{Iff·trans}
+use Rattle.std.proofs.Math.Logic.Iff
 use Rattle.meaning.specs.Store.{Store, Change, after_all, is_open}
 use Rattle.meaning.specs.Result.{Result, refused, done, on_channel}
 use Rattle.meaning.specs.ChannelCalls.{close, read, write, seek, fstat}
@@ -26,7 +26,7 @@ unaltered s call n = left_alone s (meaning call s) n
 
 on_channel_lem : (s : Store) (c : ℕ) (r : Result) → Never NoSuchCid r → (report_of (on_channel s c r) ≡ NoSuchCid) ↔ (c ∉dom (view s).cstore)
 unfolding on_channel
-on_channel_lem s c r n = Iff·trans (reported-first NoSuchCid (not (is_open s c)) r n) (not_open s c)
+on_channel_lem s c r n = Iff.trans (reported-first NoSuchCid (not (is_open s c)) r n) (not_open s c)
 
 done_cid : (numbers bytes : List ℕ) (changes : List Change) → Never NoSuchCid (done numbers bytes changes)
 unfolding number_of

@@ -1,7 +1,7 @@
 -- NoSuchName and NoFreeCids are reported exactly where the source's NameErr and ChanErr hold, and no earlier cause does.
 use Rattle.std.specs.Prelude.{ℕ, ◌≡◌, refl, ◌≢◌, ◌⊎◌, ◌↔◌, List, true, false}
 use Rattle.std.proofs.Common.{inl, inr, ⊎_elim}
-use Rattle.std.proofs.Math.Logic.{Iff·trans}
+use Rattle.std.proofs.Math.Logic.Iff
 use Rattle.std.proofs.Math.Option.{some}
 use Rattle.records.specs.Tests.{tested}
 use Rattle.meaning.specs.Name.{syllables}
@@ -36,19 +36,19 @@ open-missing : (s : Store) (bytes : List ℕ) (name : NAME) → syllables bytes 
 unfolding open' number_of
 open-missing s bytes name e =
     reported-named NoSuchName _ name _ _ e
-    (Iff·trans (reported-first NoSuchName (missing s name) _ (never_unless NoSuchName _ NoFreeCids _ (other_report NoFreeCids NoSuchName refl) (done_name _ _ _))) (name-missing s name))
+    (Iff.trans (reported-first NoSuchName (missing s name) _ (never_unless NoSuchName _ NoFreeCids _ (other_report NoFreeCids NoSuchName refl) (done_name _ _ _))) (name-missing s name))
 
 unlink-missing : (s : Store) (bytes : List ℕ) (name : NAME) → syllables bytes ≡ some name → (report_of (unlink bytes s) ≡ NoSuchName) ↔ Missing (view s) name
 unfolding unlink number_of
 unlink-missing s bytes name e =
     reported-named NoSuchName _ name _ _ e
-    (Iff·trans (reported-first NoSuchName (missing s name) _ (never_unless NoSuchName _ IsDirectory _ (other_report IsDirectory NoSuchName refl) (done_name _ _ _))) (name-missing s name))
+    (Iff.trans (reported-first NoSuchName (missing s name) _ (never_unless NoSuchName _ IsDirectory _ (other_report IsDirectory NoSuchName refl) (done_name _ _ _))) (name-missing s name))
 
 ls-missing : (size : ℕ) (s : Store) (bytes : List ℕ) (name : NAME) → syllables bytes ≡ some name → (report_of (ls bytes size s) ≡ NoSuchName) ↔ Missing (view s) name
 unfolding ls number_of
 ls-missing size s bytes name e =
     reported-named NoSuchName _ name _ _ e
-    (Iff·trans (reported-first NoSuchName (missing s name) _
+    (Iff.trans (reported-first NoSuchName (missing s name) _
     (never_unless NoSuchName _ NotDirectory _ (other_report NotDirectory NoSuchName refl)
     (never_unless NoSuchName _ OutShort _ (other_report OutShort NoSuchName refl) (done_name _ _ _)))) (name-missing s name))
 
@@ -56,7 +56,7 @@ create-nowhere : (s : Store) (bytes : List ℕ) (name : NAME) → syllables byte
 unfolding create number_of
 create-nowhere s bytes name e =
     reported-named NoSuchName _ name _ _ e
-    (Iff·trans (reported-first NoSuchName (nowhere s name) _
+    (Iff.trans (reported-first NoSuchName (nowhere s name) _
     (never_unless NoSuchName _ IsDirectory _ (other_report IsDirectory NoSuchName refl)
     (never_unless NoSuchName _ NoFreeCids _ (other_report NoFreeCids NoSuchName refl)
     (⊎_elim
@@ -77,9 +77,9 @@ unfolding link number_of
 link-nowhere s ready old new from to e h =
     reported-named NoSuchName _ from _ _ e
     (reported-named NoSuchName _ to _ _ h
-    (Iff·trans (reported_twice NoSuchName (missing s from) _)
-    (Iff·trans
-    (in_right (Iff·trans
+    (Iff.trans (reported_twice NoSuchName (missing s from) _)
+    (Iff.trans
+    (in_right (Iff.trans
     (reported_later NoSuchName (is_directory s (named s from)) IsDirectory _ (other_report IsDirectory NoSuchName refl))
     (in_second (reported-first NoSuchName (nowhere s to) _
     (never_unless NoSuchName _ IsDirectory _ (other_report IsDirectory NoSuchName refl) (naming_fits_name s to _ _ (done_name _ _ _)))))))
@@ -97,7 +97,7 @@ move-nowhere : (s : Store) → Ready s → (old new : List ℕ) (from to : NAME)
     → (report_of (move old new s) ≡ NoSuchName) ↔ NoLink (view s) from to
 unfolding number_of
 move-nowhere s ready old new from to e h =
-    Iff·trans (move_reports s ready old new NoSuchName (other_report Ok NoSuchName refl)) (link-nowhere s ready old new from to e h)
+    Iff.trans (move_reports s ready old new NoSuchName (other_report Ok NoSuchName refl)) (link-nowhere s ready old new from to e h)
 
 pub name_errs : NameErrs OnStores OnReady
 unfolding meaning
@@ -122,21 +122,21 @@ open_full : (s : Store) (bytes : List ℕ) (name : NAME) → syllables bytes ≡
 unfolding open' number_of
 open_full s bytes name e =
     reported-named NoFreeCids _ name _ _ e
-    (Iff·trans
+    (Iff.trans
     (reported_later NoFreeCids (missing s name) NoSuchName _ (other_report NoSuchName NoFreeCids refl))
-    (both_parts (name_there s name) (Iff·trans (reported-first NoFreeCids (all_open s) _ (done_full _ _ _)) (none_free s))))
+    (both_parts (name_there s name) (Iff.trans (reported-first NoFreeCids (all_open s) _ (done_full _ _ _)) (none_free s))))
 
 create_full : (s : Store) (bytes : List ℕ) (name : NAME) → syllables bytes ≡ some name
     → (report_of (create bytes s) ≡ NoFreeCids) ↔ ((Nowhere (view s) name → ⊥) × ((view s).dnames name ≡ false) × NoneFree s)
 unfolding create if_naming_fits number_of
 create_full s bytes name e =
     reported-named NoFreeCids _ name _ _ e
-    (Iff·trans
+    (Iff.trans
     (reported_later NoFreeCids (nowhere s name) NoSuchName _ (other_report NoSuchName NoFreeCids refl))
-    (Iff·trans
-    (both_parts (name_somewhere s name) (Iff·trans
+    (Iff.trans
+    (both_parts (name_somewhere s name) (Iff.trans
     (reported_later NoFreeCids (is_directory s (named s name)) IsDirectory _ (other_report IsDirectory NoFreeCids refl))
-    (in_second (Iff·trans (reported-first NoFreeCids (all_open s) _
+    (in_second (Iff.trans (reported-first NoFreeCids (all_open s) _
     (⊎_elim
     (λ (gone : missing s name ≡ true). rw gone (never_unless NoFreeCids _ NoFreeFids _ (other_report NoFreeFids NoFreeCids refl) (never_fits NoFreeCids s _ _ _ (other_report TooBig NoFreeCids refl) (other_report NoRoom NoFreeCids refl) (done_full _ _ _))))
     (λ (there : missing s name ≡ false). rw there (done_full _ _ _))

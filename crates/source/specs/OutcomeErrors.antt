@@ -2,7 +2,7 @@
 use Rattle.std.specs.Prelude.{ℕ, ◌≡◌, ◌≢◌, ◌↔◌, get_or, replicate}
 use Rattle.std.proofs.Math.Path.{refl, ap}
 use Rattle.std.proofs.Common.{sym, ◌∙◌, inl, inr, ⊎_elim}
-use Rattle.std.proofs.Math.Logic.{Iff·trans}
+use Rattle.std.proofs.Math.Logic.Iff
 use mathlib.Core.List.{List, [], ◌∷◌}
 use Rattle.std.proofs.Math.Option.{some-injective}
 use Rattle.meaning.specs.Store.{Store}
@@ -46,7 +46,7 @@ module _ (call : Call) (t : Tables) (buffer : List ℕ) (o : Outcome) (kept : Ke
 
 -- so what is told of stores is told of outcomes
 told : (call : Call) (why : Report) (cause : Store → Type 0) → ((s : Store) → Ready s → (report_of (meaning call s) ≡ why) ↔ cause s) → OnOutcomes call why cause
-told call why cause h t buffer o kept = Iff·trans (head_report call t buffer o kept why) (h (store_of t) (sound_ready t kept.0))
+told call why cause h t buffer o kept = Iff.trans (head_report call t buffer o kept why) (h (store_of t) (sound_ready t kept.0))
 
 pub outcome_errs : OutcomeErrs
 outcome_errs =
