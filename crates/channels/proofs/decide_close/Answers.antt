@@ -5,7 +5,6 @@ use mathlib.Core.Logic.{◌≢◌}
 use mathlib.Core.List.{List, [], ◌∷◌}
 use mathlib.Core.Bool.{true}
 use native.Mathlib.Omega.{arith}
-use borrow.Author.Rules.{rules}
 use Rattle.meaning.specs.Store.{file, channel, no_channel, in_use, names, let_go}
 use Rattle.meaning.specs.Tables.{Tables, tables, store_of, channel_of, channel_count}
 use Rattle.meaning.specs.ChannelCalls.{close}
@@ -29,8 +28,7 @@ use Rattle.channels.specs.CloseLaws.{closed, holders, stays_directory, stays_hel
 use Rattle.channels.specs.declared.Held.{Held}
 use Rattle.channels.specs.declared.Held.TheVariants.{Open, Refused}
 use Rattle.channels.specs.declared.Closing.TheVariants.{Alone, WithFile, No}
-use Rattle.channels.proofs.decide_close.Statement.{statement}
-use Rattle.channels.proofs.decide_close.Tie as tie
+use Rattle.channels.proofs.decide_close.Goals as goal
 
 abbrev rest : Tables → ℕ → Result
 rest t c = done [] [] (channel c no_channel ∷ let_go (closed (store_of t) c) ((store_of t).channel c).file)
@@ -102,51 +100,23 @@ module _ (b br fr cr : List ℕ) (c : ℕ) (h : Held) (on : OnChannel (tables b 
                 inside = (channel_there t c y holds, clearable t (sound_layout t holds.ok) y.file.0 (file_there t c y holds).0 (file_there t c y holds).1);
               }
 
-held-channel-requires : tie.Need-held-channel-requires
-held-channel-requires c κs = search rules
+pub file_record-record-requires : goal.file_record-record-requires
+file_record-record-requires c = (search file_some, search file-last)
 
-enum-known-held : tie.Need-enum-known-held
-enum-known-held c = search rules
+pub returns-then-record-ne1 : goal.returns-then-record-ne1
+returns-then-record-ne1 c = search not_ordinary
 
-enum-known-held-2 : tie.Need-enum-known-held-2
-enum-known-held-2 c = search rules
+pub returns-then-count_channels-ne1 : goal.returns-then-count_channels-ne1
+returns-then-count_channels-ne1 c = search other_channel
 
-file-record-requires : tie.Need-file-record-requires
-file-record-requires c κs = (search file_some, search file-last)
+pub names_of-requires : goal.names_of-requires
+names_of-requires c = search of_file
 
-returns : tie.Need-returns
-returns c = search not_ordinary
+pub returns-then-names_of-ne0 : goal.returns-then-names_of-ne0
+returns-then-names_of-ne0 c = search has_name
 
-count-channels-requires : tie.Need-count-channels-requires
-count-channels-requires c κs = search rules
+pub returns-in-Refused : goal.returns-in-Refused
+returns-in-Refused c = search refusal
 
-returns-2 : tie.Need-returns-2
-returns-2 c = search other_channel
-
-names-of-requires : tie.Need-names-of-requires
-names-of-requires c κs = search of_file
-
-returns-3 : tie.Need-returns-3
-returns-3 c = search has_name
-
-returns-4 : tie.Need-returns-4
-returns-4 c = search refusal
-
-returns-5 : tie.Need-returns-5
-returns-5 c = search orphaned
-
-pub decide-close-spec : {M : Type 1} → statement M
-decide-close-spec =
-    tie.close
-    (tie.spec
-    held-channel-requires
-    enum-known-held
-    enum-known-held-2
-    file-record-requires
-    returns
-    count-channels-requires
-    returns-2
-    names-of-requires
-    returns-3
-    returns-4
-    returns-5)
+pub returns-else-names_of-ne0 : goal.returns-else-names_of-ne0
+returns-else-names_of-ne0 c = search orphaned

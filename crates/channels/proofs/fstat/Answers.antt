@@ -2,7 +2,6 @@
 use Prim.Native.Nat.{ℕ, ◌-◌}
 use mathlib.Core.Path.{◌≡◌, refl, sym, ◌∙◌}
 use mathlib.Core.List.{[], ◌∷◌}
-use borrow.Author.Rules.{rules}
 use lib.ListN.{length}
 use Rattle.meaning.specs.Tables.{Tables, store_of, put_all}
 use Rattle.meaning.specs.ChannelCalls.{fstat}
@@ -17,8 +16,7 @@ use Rattle.channels.specs.Held.{OnChannel, on_channel_of}
 use Rattle.channels.specs.HeldLaws.{refuses, holding, gives, file_some, file-last, size_is, kind_is}
 use Rattle.channels.specs.declared.Held.{Held}
 use Rattle.channels.specs.declared.Held.TheVariants.{Open, Refused}
-use Rattle.channels.proofs.fstat.Statement.{statement}
-use Rattle.channels.proofs.fstat.Tie as tie
+use Rattle.channels.proofs.fstat.Goals as goal
 
 abbrev rest : Tables → ℕ → Result
 rest t c =
@@ -44,31 +42,11 @@ module _ (t : Tables) (c : ℕ) (h : Held) (on : OnChannel t c h) where
       rw (size, kind, ← d.file) at (gives t c h on y e (rest t c) ∙ on_channel_lem t c) in
       kept_done (Call.Fstat c) t [] (x.length ∷ y.file.0 ∷ x.kind ∷ []) [] [] means t refl
 
-held-channel-requires : tie.Need-held-channel-requires
-held-channel-requires c κs = search rules
+pub file_record-record-requires : goal.file_record-record-requires
+file_record-record-requires c = (search file_some, search file-last)
 
-enum-known-held : tie.Need-enum-known-held
-enum-known-held c = search rules
+pub returns-in-Refused : goal.returns-in-Refused
+returns-in-Refused c = search refused_so
 
-enum-known-held-2 : tie.Need-enum-known-held-2
-enum-known-held-2 c = search rules
-
-file-record-requires : tie.Need-file-record-requires
-file-record-requires c κs = (search file_some, search file-last)
-
-returns : tie.Need-returns
-returns c = search refused_so
-
-returns-2 : tie.Need-returns-2
-returns-2 c = search told
-
-pub fstat-spec : {M : Type 1} → statement M
-fstat-spec =
-    tie.close
-    (tie.spec
-    held-channel-requires
-    enum-known-held
-    enum-known-held-2
-    file-record-requires
-    returns
-    returns-2)
+pub returns-in-Open : goal.returns-in-Open
+returns-in-Open c = search told

@@ -4,7 +4,6 @@ use mathlib.Core.Path.{◌≡◌, sym, ◌∙◌}
 use mathlib.Core.List.{List}
 use mathlib.Core.Bool.{true}
 use native.Mathlib.Omega.{arith}
-use borrow.Author.Rules.{rules}
 use borrow.Author.Tests.{lt-ltb, le-ltb}
 use Rattle.meaning.specs.File.{needed, longest}
 use Rattle.meaning.specs.Store.{is_directory}
@@ -19,8 +18,7 @@ use Rattle.soundness.specs.Seen.{files_store}
 use Rattle.lookup.specs.LookLaws.{directory_there}
 use Rattle.recording.specs.Fit.{FitsIn, if_fits_in}
 use Rattle.recording.specs.declared.Fit.TheVariants.{Fits, No}
-use Rattle.recording.proofs.record_fits.Statement.{statement}
-use Rattle.recording.proofs.record_fits.Tie as tie
+use Rattle.recording.proofs.record_fits.Goals as goal
 
 module _ (records files : List ℕ) (d i : ℕ) (is : is_directory (files_store files) d ≡ true) (few : (file_length files d ≤ 32768) × (i ≤ 2048))
     (r : FileRecord) (read : FileRead files (d - 1) r) where
@@ -52,59 +50,17 @@ module _ (records files : List ℕ) (d i : ℕ) (is : is_directory (files_store 
       fits : all - had ≤ free → FitsIn (free_block_count records) size (max size (16 * i + 16)) Fits
       fits h = let e = its_size in (omega arith, omega arith)
 
-file-record-requires : tie.Need-file-record-requires
-file-record-requires c κs = search directory_there
+pub file_record-size-requires : goal.file_record-size-requires
+file_record-size-requires c = search directory_there
 
-cast-size : tie.Need-overflow-cast-size
-cast-size c = search rules
+pub returns-then-end-size : goal.returns-then-end-size
+returns-then-end-size c = search within
 
-mul-end : tie.Need-overflow-mul-end
-mul-end c = search rules
+pub returns-then-end : goal.returns-then-end
+returns-then-end c = search too_big
 
-add-end : tie.Need-overflow-add-end
-add-end c = search rules
+pub returns-then-free-places : goal.returns-then-free-places
+returns-then-free-places c = search no_room
 
-returns : tie.Need-returns
-returns c = search within
-
-cast-if2 : tie.Need-overflow-cast-if2
-cast-if2 c = search rules
-
-returns-2 : tie.Need-returns-2
-returns-2 c = search too_big
-
-count-free-blocks-requires : tie.Need-count-free-blocks-requires
-count-free-blocks-requires c κs = search rules
-
-places-requires : tie.Need-places-requires
-places-requires c κs = search rules
-
-places-requires-2 : tie.Need-places-requires-2
-places-requires-2 c κs = search rules
-
-sub-if3 : tie.Need-overflow-sub-if3
-sub-if3 c = search rules
-
-returns-3 : tie.Need-returns-3
-returns-3 c = search no_room
-
-returns-4 : tie.Need-returns-4
-returns-4 c = search fits
-
-pub record-fits-spec : {M : Type 1} → statement M
-record-fits-spec =
-    tie.close
-    (tie.spec
-    file-record-requires
-    cast-size
-    mul-end
-    add-end
-    returns
-    cast-if2
-    returns-2
-    count-free-blocks-requires
-    places-requires
-    places-requires-2
-    sub-if3
-    returns-3
-    returns-4)
+pub returns : goal.returns
+returns c = search fits

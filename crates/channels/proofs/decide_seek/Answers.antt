@@ -4,7 +4,6 @@ use mathlib.Core.Path.{◌≡◌, refl, ◌∙◌}
 use mathlib.Core.List.{[], ◌∷◌}
 use mathlib.Core.Bool.{◌||◌}
 use native.Mathlib.Omega.{arith}
-use borrow.Author.Rules.{rules}
 use borrow.Author.Tests.{lt-ltb, le-ltb}
 use lib.ListN.{length}
 use lib.Dec.{ltb}
@@ -24,8 +23,7 @@ use Rattle.channels.specs.Seek.{Decided}
 use Rattle.channels.specs.declared.Held.{Held}
 use Rattle.channels.specs.declared.Held.TheVariants.{Open, Refused}
 use Rattle.channels.specs.declared.Seeking.TheVariants.{To, No}
-use Rattle.channels.proofs.decide_seek.Statement.{statement}
-use Rattle.channels.proofs.decide_seek.Tie as tie
+use Rattle.channels.proofs.decide_seek.Goals as goal
 
 -- where it leads from an open channel, and what it gives then
 abbrev leads : Tables → ℕ → ℕ → ℕ → ℕ
@@ -70,51 +68,17 @@ module _ (t : Tables) (c mode n : ℕ) (h : Held) (on : OnChannel t c h) where
           let d = holding t c h on y e in
           record { means = rw (le-ltb 5 mode low, leads-to, le-ltb last_position to m, ← d.file) at given; inside = channel_there t c y d }
 
-held-channel-requires : tie.Need-held-channel-requires
-held-channel-requires c κs = search rules
+pub returns-then-mode-gt5 : goal.returns-then-mode-gt5
+returns-then-mode-gt5 c = search mode_above
 
-enum-known-held : tie.Need-enum-known-held
-enum-known-held c = search rules
+pub file_record-record-requires : goal.file_record-record-requires
+file_record-record-requires c = (search file_some, search file-last)
 
-enum-known-held-2 : tie.Need-enum-known-held-2
-enum-known-held-2 c = search rules
+pub returns-then-to : goal.returns-then-to
+returns-then-to c = let past : last_position < c.seek_to-to.result = omega arith in search far
 
-returns : tie.Need-returns
-returns c = search mode_above
+pub returns-in-Refused : goal.returns-in-Refused
+returns-in-Refused c = search refusal
 
-file-record-requires : tie.Need-file-record-requires
-file-record-requires c κs = (search file_some, search file-last)
-
-seek-to-requires : tie.Need-seek-to-requires
-seek-to-requires c κs = search rules
-
-cast-if2 : tie.Need-overflow-cast-if2
-cast-if2 c = search rules
-
-returns-2 : tie.Need-returns-2
-returns-2 c = let past : last_position < c.before.seek-to.result = omega arith in search far
-
-cast-t19 : tie.Need-overflow-cast-t19
-cast-t19 c = search rules
-
-returns-3 : tie.Need-returns-3
-returns-3 c = search refusal
-
-returns-4 : tie.Need-returns-4
-returns-4 c = search near
-
-pub decide-seek-spec : {M : Type 1} → statement M
-decide-seek-spec =
-    tie.close
-    (tie.spec
-    held-channel-requires
-    enum-known-held
-    enum-known-held-2
-    returns
-    file-record-requires
-    seek-to-requires
-    cast-if2
-    returns-2
-    cast-t19
-    returns-3
-    returns-4)
+pub returns-else-to : goal.returns-else-to
+returns-else-to c = search near

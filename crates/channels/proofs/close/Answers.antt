@@ -2,7 +2,6 @@
 use Prim.Native.Nat.{ℕ, ◌<◌}
 use mathlib.Core.Path.{◌≡◌, refl, sym, ap, subst, ◌∙◌}
 use mathlib.Core.List.{List, [], ◌∷◌}
-use borrow.Author.Rules.{rules}
 use Rattle.records.specs.Numbers.{with_record}
 use Rattle.meaning.specs.Store.{file, channel, no_file, no_channel}
 use Rattle.meaning.specs.Tables.{Tables, tables, put, put_all, channel_count, channel_record}
@@ -16,8 +15,7 @@ use Rattle.files.specs.Files.{Clearable, cleared}
 use Rattle.channels.specs.Close.{Closes, Inside, planned}
 use Rattle.channels.specs.declared.Closing.{Closing}
 use Rattle.channels.specs.declared.Closing.TheVariants.{Alone, WithFile, No}
-use Rattle.channels.proofs.close.Statement.{statement}
-use Rattle.channels.proofs.close.Tie as tie
+use Rattle.channels.proofs.close.Goals as goal
 
 module _ (b br fr cr : List ℕ) (c : ℕ) (d : Closing) (decided : Closes (tables b br fr cr) c d) where
   abbrev t : Tables
@@ -52,83 +50,20 @@ module _ (b br fr cr : List ℕ) (c : ℕ) (d : Closing) (decided : Closes (tabl
         kept_done (Call.Close c) t [] [] [] (channel c no_channel ∷ file f.0 no_file ∷ []) (ap (planned c) (sym e) ∙ decided.means)
         (tables b br' fr' records) (clears b records ∙ ap (λ l. put (tables b br fr l) (file f.0 no_file)) blanked)
 
-decide-close-requires : tie.Need-decide-close-requires
-decide-close-requires c κs = search rules
+pub put_channel_record-requires : goal.put_channel_record-requires
+put_channel_record-requires c = search alone_in
 
-enum-known-decided : tie.Need-enum-known-decided
-enum-known-decided c = search rules
+pub put_channel_record-requires-in-WithFile : goal.put_channel_record-requires-in-WithFile
+put_channel_record-requires-in-WithFile c = search with_file_in
 
-enum_told : tie.Need-enum-told
-enum_told c = search rules
+pub clear_file-requires : goal.clear_file-requires
+clear_file-requires c = search clearable_in
 
-put-channel-record-requires : tie.Need-put-channel-record-requires
-put-channel-record-requires c κs = search alone_in
+pub returns-in-No : goal.returns-in-No
+returns-in-No c = search refuses
 
-enum-known-decided-2 : tie.Need-enum-known-decided-2
-enum-known-decided-2 c = search rules
+pub returns-in-Alone : goal.returns-in-Alone
+returns-in-Alone c = search alone
 
-put-channel-record-requires-2 : tie.Need-put-channel-record-requires-2
-put-channel-record-requires-2 c κs = search with_file_in
-
-clear-file-requires : tie.Need-clear-file-requires
-clear-file-requires c κs = search clearable_in
-
-same_length : tie.Need-same-length
-same_length c = search rules
-
-same-length-2 : tie.Need-same-length-2
-same-length-2 c = search rules
-
-same-length-3 : tie.Need-same-length-3
-same-length-3 c = search rules
-
-returns : tie.Need-returns
-returns c = search refuses
-
-same-length-4 : tie.Need-same-length-4
-same-length-4 c = search rules
-
-same-length-5 : tie.Need-same-length-5
-same-length-5 c = search rules
-
-same-length-6 : tie.Need-same-length-6
-same-length-6 c = search rules
-
-returns-2 : tie.Need-returns-2
-returns-2 c = search alone
-
-same-length-7 : tie.Need-same-length-7
-same-length-7 c = search rules
-
-same-length-8 : tie.Need-same-length-8
-same-length-8 c = search rules
-
-same-length-9 : tie.Need-same-length-9
-same-length-9 c = search rules
-
-returns-3 : tie.Need-returns-3
-returns-3 c = search with_file
-
-pub close_spec : {M : Type 1} → statement M
-close_spec =
-    tie.close
-    (tie.spec
-    decide-close-requires
-    enum-known-decided
-    enum_told
-    put-channel-record-requires
-    enum-known-decided-2
-    put-channel-record-requires-2
-    clear-file-requires
-    same_length
-    same-length-2
-    same-length-3
-    returns
-    same-length-4
-    same-length-5
-    same-length-6
-    returns-2
-    same-length-7
-    same-length-8
-    same-length-9
-    returns-3)
+pub returns-in-WithFile : goal.returns-in-WithFile
+returns-in-WithFile c = search with_file

@@ -2,7 +2,6 @@
 use Prim.Native.Nat.{ℕ, ◌-◌, ◌<◌}
 use mathlib.Core.Path.{◌≡◌, sym, ap, subst, ◌∙◌}
 use mathlib.Core.List.{List, [], ◌∷◌}
-use borrow.Author.Rules.{rules}
 use Rattle.records.specs.Numbers.{with_record}
 use Rattle.meaning.specs.Tables.{Tables, tables, put, put_all, channel_count, channel_record}
 use Rattle.meaning.specs.Run.{Call, Promise, refusal, accepted}
@@ -13,8 +12,7 @@ use Rattle.tables.specs.declared.ChannelRecord.{ChannelRecord}
 use Rattle.channels.specs.Seek.{Decided, Inside, planned}
 use Rattle.channels.specs.declared.Seeking.{Seeking}
 use Rattle.channels.specs.declared.Seeking.TheVariants.{To, No}
-use Rattle.channels.proofs.seek.Statement.{statement}
-use Rattle.channels.proofs.seek.Tie as tie
+use Rattle.channels.proofs.seek.Goals as goal
 
 module _ (t : Tables) (c mode n : ℕ) (d : Seeking) (decided : Decided t c mode n d) where
   refuses : (why : Report) → d ≡ No why → Promise (Call.Seek c mode n) t [] (record { answer = refusal 1 why; buffer = []; tables = t })
@@ -31,39 +29,11 @@ module _ (t : Tables) (c mode n : ℕ) (d : Seeking) (decided : Decided t c mode
 record_in : (b br fr cr : List ℕ) (c mode n : ℕ) (d : Seeking) → Decided (tables b br fr cr) c mode n d → (y : ChannelRecord) → d ≡ To y → c < channel_count cr
 record_in b br fr cr c mode n d decided y e = subst (Inside (tables b br fr cr) c) e decided.inside
 
-decide-seek-requires : tie.Need-decide-seek-requires
-decide-seek-requires c κs = search rules
+pub put_channel_record-requires : goal.put_channel_record-requires
+put_channel_record-requires c = search record_in
 
-enum-known-decided : tie.Need-enum-known-decided
-enum-known-decided c = search rules
+pub returns-in-No : goal.returns-in-No
+returns-in-No c = search refuses
 
-enum-known-decided-2 : tie.Need-enum-known-decided-2
-enum-known-decided-2 c = search rules
-
-put-channel-record-requires : tie.Need-put-channel-record-requires
-put-channel-record-requires c κs = search record_in
-
-same_length : tie.Need-same-length
-same_length c = search rules
-
-returns : tie.Need-returns
-returns c = search refuses
-
-same-length-2 : tie.Need-same-length-2
-same-length-2 c = search rules
-
-returns-2 : tie.Need-returns-2
-returns-2 c = search moves
-
-pub seek-spec : {M : Type 1} → statement M
-seek-spec =
-    tie.close
-    (tie.spec
-    decide-seek-requires
-    enum-known-decided
-    enum-known-decided-2
-    put-channel-record-requires
-    same_length
-    returns
-    same-length-2
-    returns-2)
+pub returns-in-To : goal.returns-in-To
+returns-in-To c = search moves

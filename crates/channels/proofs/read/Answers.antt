@@ -3,7 +3,6 @@ use Prim.Native.Nat.{ℕ, ◌+◌, ◌-◌, ◌<◌}
 use mathlib.Core.Path.{◌≡◌, refl, ap, ◌∙◌}
 use mathlib.Core.List.{List, [], ◌∷◌}
 use native.Mathlib.Omega.{arith}
-use borrow.Author.Rules.{rules}
 use lib.ListN.{length}
 use Rattle.records.specs.Numbers.{with_record}
 use Rattle.meaning.specs.File.{readFILE}
@@ -26,8 +25,7 @@ use Rattle.channels.specs.HeldLaws.{refuses, holding, gives, channel_there, file
 use Rattle.channels.specs.Move.{moved_by}
 use Rattle.channels.specs.declared.Held.{Held}
 use Rattle.channels.specs.declared.Held.TheVariants.{Open, Refused}
-use Rattle.channels.proofs.read.Statement.{statement}
-use Rattle.channels.proofs.read.Tie as tie
+use Rattle.channels.proofs.read.Goals as goal
 
 abbrev rest : Tables → ℕ → ℕ → Result
 rest t c size =
@@ -83,55 +81,17 @@ module _ (b br fr cr : List ℕ) (c : ℕ) (h : Held) (on : OnChannel (tables b 
           kept (Call.Read c (length buffer)) t buffer result means (record { answer = accepted (n ∷ []); buffer = after; tables = tables b br fr records })
           refl (reads.fills cr) (ap (tables b br fr) (rw (p, moved)))
 
-held-channel-requires : tie.Need-held-channel-requires
-held-channel-requires c κs = search rules
+pub read_file-n-requires : goal.read_file-n-requires
+read_file-n-requires c = search has
 
-enum-known-held : tie.Need-enum-known-held
-enum-known-held c = search rules
+pub moved_by-next-requires : goal.moved_by-next-requires
+moved_by-next-requires c = search near
 
-enum-known-held-2 : tie.Need-enum-known-held-2
-enum-known-held-2 c = search rules
+pub put_channel_record-requires : goal.put_channel_record-requires
+put_channel_record-requires c = search record_in
 
-read-file-requires : tie.Need-read-file-requires
-read-file-requires c κs = search has
+pub returns-in-Refused : goal.returns-in-Refused
+returns-in-Refused c = search refused_so
 
-cast-count : tie.Need-overflow-cast-count
-cast-count c = search rules
-
-moved-by-requires : tie.Need-moved-by-requires
-moved-by-requires c κs = search near
-
-put-channel-record-requires : tie.Need-put-channel-record-requires
-put-channel-record-requires c κs = search record_in
-
-same_length : tie.Need-same-length
-same_length c = search rules
-
-returns : tie.Need-returns
-returns c = search refused_so
-
-same-length-2 : tie.Need-same-length-2
-same-length-2 c = search rules
-
-same-length-3 : tie.Need-same-length-3
-same-length-3 c = search rules
-
-returns-2 : tie.Need-returns-2
-returns-2 c = search gave
-
-pub read_spec : {M : Type 1} → statement M
-read_spec =
-    tie.close
-    (tie.spec
-    held-channel-requires
-    enum-known-held
-    enum-known-held-2
-    read-file-requires
-    cast-count
-    moved-by-requires
-    put-channel-record-requires
-    same_length
-    returns
-    same-length-2
-    same-length-3
-    returns-2)
+pub returns-in-Open : goal.returns-in-Open
+returns-in-Open c = search gave
