@@ -5,7 +5,7 @@ mod answers;
 
 ghost use Rattle.std.specs.Prelude.{length};
 ghost use Rattle.meaning.specs.Tables.{tables};
-ghost use Rattle.meaning.specs.Run.{Call};
+ghost use Rattle.meaning.specs.Run.{entered, left, Call};
 ghost use Rattle.filestore.specs.Tells.{Tells, TellsInto};
 
 use answers::{tell_counted, tell_opened, tell_report, tell_sought, tell_space, tell_stat};

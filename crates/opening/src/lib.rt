@@ -1,7 +1,7 @@
 // The calls that open a channel by a name.
 #![tactic(auto)]
 ghost use Rattle.meaning.specs.Tables.{tables};
-ghost use Rattle.meaning.specs.Run.{Keeps, Call, entered};
+ghost use Rattle.meaning.specs.Run.{left, Keeps, Call, entered};
 ghost use Rattle.meaning.specs.Answers.{opened};
 ghost use Rattle.opening.specs.Open.{Decided};
 ghost use Rattle.opening.specs.Create.{NewName, Created};

@@ -3,7 +3,7 @@
 ghost use Rattle.std.specs.Prelude.{◌≡◌, ◌+◌, ◌-◌, ◌≤◌, max, length, ltb};
 ghost use Rattle.meaning.specs.Tables.{tables};
 ghost use Rattle.meaning.specs.File.{needed, longest};
-ghost use Rattle.meaning.specs.Run.{Keeps, Call, entered};
+ghost use Rattle.meaning.specs.Run.{left, Keeps, Call, entered};
 ghost use Rattle.meaning.specs.Answers.{counted};
 ghost use Rattle.writing.specs.Write.{Decided};
 

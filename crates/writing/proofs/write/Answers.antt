@@ -16,8 +16,7 @@ use Rattle.channels.specs.Move.{moved_by}
 use Rattle.writing.specs.Write.{Decided, Ready, Inside, planned, written}
 use Rattle.writing.specs.declared.Writing.{Writing}
 use Rattle.writing.specs.declared.Writing.TheVariants.{On, No}
-use Rattle.writing.proofs.write.Statement.{statement}
-use Rattle.writing.proofs.write.Tie as tie
+use Rattle.writing.proofs.write.Goals as goal
 
 -- a file's change, then a channel's
 both_put : (t u : Tables) (change : Change) (c f posn : ℕ) → u ≡ put t change
@@ -55,84 +54,20 @@ module _ (b br fr cr : List ℕ) (c : ℕ) (bytes : List ℕ) (d : Writing) (dec
         (ap (planned t c bytes) (sym e) ∙ decided.means bytes refl)
         (tables b' br' fr' records) (ap (tables b' br' fr') q ∙ both_put t (tables b' br' fr' cr) change c y.file.0 position put-so)
 
--- where a channel is written on, its decision says that all is ready
-ready_at : (c : tie.After-known-told2)
-    → let start = c.before.before.before.before.before.before.before.before.before.before.before.before.before.args in
-    Ready (tables start.blocks.now start.block_records_lem.now start.file-records.now start.channel_records_lem.now) start.c.0 (length start.«data».now)
-    c.before.decided2.given.0.0
-ready_at c =
-    let given = c.before.decided2.given in
-    ready _ _ _ _ _ c.before.before.before.before.before.before.before.before.before.before.before.before.before.args.«data».now _ c.before.before.before.decide-write.ensures given.0.0 given.1
+pub write_file-requires : goal.write_file-requires
+write_file-requires c = (ready _ _ _ _ _ c.args.«data».now _ c.decide_write-decided.ensures _ c.in-On.is).writable _ refl
 
-decide-write-requires : tie.Need-decide-write-requires
-decide-write-requires c κs = search rules
+pub moved_by-next-requires : goal.moved_by-next-requires
+moved_by-next-requires c = let near = (ready _ _ _ _ _ c.args.«data».now _ c.decide_write-decided.ensures _ c.in-On.is).near in search rules
 
-enum-known-decided : tie.Need-enum-known-decided
-enum-known-decided c = search rules
+pub put_channel_record-requires : goal.put_channel_record-requires
+put_channel_record-requires c = (ready _ _ _ _ _ c.args.«data».now _ c.decide_write-decided.ensures _ c.in-On.is).below
 
-enum-known-decided-2 : tie.Need-enum-known-decided-2
-enum-known-decided-2 c = search rules
+pub overflow_cast-result : goal.overflow_cast-result
+overflow_cast-result c = let near = (ready _ _ _ _ _ c.args.«data».now _ c.decide_write-decided.ensures _ c.in-On.is).near in search rules
 
-write-file-requires : tie.Need-write-file-requires
-write-file-requires c κs = (ready_at c.before.before.before.before).writable _ refl
+pub returns-in-No : goal.returns-in-No
+returns-in-No c = search refuses
 
-moved-by-requires : tie.Need-moved-by-requires
-moved-by-requires c κs = let near = (ready_at c.before.before.before.before.before.before.before.before.before.before.before).near in search rules
-
-put-channel-record-requires : tie.Need-put-channel-record-requires
-put-channel-record-requires c κs = (ready_at c.before.before.before.before.before.before.before.before.before.before.before.before.before).below
-
-cast-t31 : tie.Need-overflow-cast-t31
-cast-t31 c = let near = (ready_at c.before.before.before.before.before.before.before.before.before.before.before.before.before.before.before.before).near in search rules
-
-same_length : tie.Need-same-length
-same_length c = search rules
-
-same-length-2 : tie.Need-same-length-2
-same-length-2 c = search rules
-
-same-length-3 : tie.Need-same-length-3
-same-length-3 c = search rules
-
-same-length-4 : tie.Need-same-length-4
-same-length-4 c = search rules
-
-returns : tie.Need-returns
-returns c = search refuses
-
-same-length-5 : tie.Need-same-length-5
-same-length-5 c = search rules
-
-same-length-6 : tie.Need-same-length-6
-same-length-6 c = search rules
-
-same-length-7 : tie.Need-same-length-7
-same-length-7 c = search rules
-
-same-length-8 : tie.Need-same-length-8
-same-length-8 c = search rules
-
-returns-2 : tie.Need-returns-2
-returns-2 c = search writes
-
-pub write_spec : {M : Type 1} → statement M
-write_spec =
-    tie.close
-    (tie.spec
-    decide-write-requires
-    enum-known-decided
-    enum-known-decided-2
-    write-file-requires
-    moved-by-requires
-    put-channel-record-requires
-    cast-t31
-    same_length
-    same-length-2
-    same-length-3
-    same-length-4
-    returns
-    same-length-5
-    same-length-6
-    same-length-7
-    same-length-8
-    returns-2)
+pub returns-in-On : goal.returns-in-On
+returns-in-On c = search writes

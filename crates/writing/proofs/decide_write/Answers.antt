@@ -5,7 +5,6 @@ use mathlib.Core.Logic.{◌≢◌}
 use mathlib.Core.List.{List, [], ◌∷◌}
 use mathlib.Core.Bool.{Bool, true, false}
 use native.Mathlib.Omega.{arith}
-use borrow.Author.Rules.{rules}
 use borrow.Author.Tests.{lt-ltb, le-ltb, ltb-true, ltb-false, eq-eqb, ne_eqb}
 use lib.ListN.{length}
 use lib.Dec.{ltb, eqb}
@@ -36,8 +35,7 @@ use Rattle.channels.specs.declared.Held.{Held}
 use Rattle.channels.specs.declared.Held.TheVariants.{Open, Refused}
 use Rattle.writing.specs.Write.{Decided}
 use Rattle.writing.specs.declared.Writing.TheVariants.{On, No}
-use Rattle.writing.proofs.decide_write.Statement.{statement}
-use Rattle.writing.proofs.decide_write.Tie as tie
+use Rattle.writing.proofs.decide_write.Goals as goal
 
 abbrev rest : Tables → ℕ → List ℕ → Result
 rest t c bytes =
@@ -173,63 +171,23 @@ module _ (b br fr cr : List ℕ) (c n : ℕ) (h : Held) (on : OnChannel (tables 
                   };
                 }
 
-held-channel-requires : tie.Need-held-channel-requires
-held-channel-requires c κs = search rules
+pub file_record-record-requires : goal.file_record-record-requires
+file_record-record-requires c = (search file_some, search file-last)
 
-enum-known-held : tie.Need-enum-known-held
-enum-known-held c = search rules
+pub returns-then-record-eq2 : goal.returns-then-record-eq2
+returns-then-record-eq2 c = search on_directory
 
-enum-known-held-2 : tie.Need-enum-known-held-2
-enum-known-held-2 c = search rules
+pub returns-then-too_long : goal.returns-then-too_long
+returns-then-too_long c = search too_big
 
-file-record-requires : tie.Need-file-record-requires
-file-record-requires c κs = (search file_some, search file-last)
+pub new_blocks-more-requires : goal.new_blocks-more-requires
+new_blocks-more-requires c = (search short_file, search near)
 
-returns : tie.Need-returns
-returns c = search on_directory
+pub returns-then-count_free_blocks-more : goal.returns-then-count_free_blocks-more
+returns-then-count_free_blocks-more c = let short : c.count_free_blocks.result < c.new_blocks-more.result = c.if-count_free_blocks-more.true in search no_room
 
-too-long-requires : tie.Need-too-long-requires
-too-long-requires c κs = search rules
+pub returns-in-Refused : goal.returns-in-Refused
+returns-in-Refused c = search refusal
 
-returns-2 : tie.Need-returns-2
-returns-2 c = search too_big
-
-cast-new-blocks : tie.Need-overflow-cast-new-blocks
-cast-new-blocks c = search rules
-
-cast-new-blocks-2 : tie.Need-overflow-cast-new-blocks-2
-cast-new-blocks-2 c = search rules
-
-new-blocks-requires : tie.Need-new-blocks-requires
-new-blocks-requires c κs = (search short_file, search near)
-
-count-free-blocks-requires : tie.Need-count-free-blocks-requires
-count-free-blocks-requires c κs = search rules
-
-returns-3 : tie.Need-returns-3
-returns-3 c = let short : c.before.count-free-blocks.result < c.before.before.new-blocks.result = c.if3.true in search no_room
-
-returns-4 : tie.Need-returns-4
-returns-4 c = search refusal
-
-returns-5 : tie.Need-returns-5
-returns-5 c = search room
-
-pub decide-write-spec : {M : Type 1} → statement M
-decide-write-spec =
-    tie.close
-    (tie.spec
-    held-channel-requires
-    enum-known-held
-    enum-known-held-2
-    file-record-requires
-    returns
-    too-long-requires
-    returns-2
-    cast-new-blocks
-    cast-new-blocks-2
-    new-blocks-requires
-    count-free-blocks-requires
-    returns-3
-    returns-4
-    returns-5)
+pub returns-else-count_free_blocks-more : goal.returns-else-count_free_blocks-more
+returns-else-count_free_blocks-more c = search room
