@@ -4,7 +4,6 @@ use mathlib.Core.Path.{◌≡◌, refl, sym, ap, subst, ◌∙◌}
 use mathlib.Core.Logic.{◌≢◌}
 use mathlib.Core.List.{List, [], ◌∷◌}
 use native.Mathlib.Omega.{arith}
-use borrow.Author.Rules.{rules}
 use borrow.Author.Tests.{eq-eqb, ne_eqb}
 use Rattle.meaning.specs.Name.{blank_record}
 use Rattle.meaning.specs.Store.{file, no_file}
@@ -22,8 +21,7 @@ use Rattle.recording.specs.AfterRecord.{Written, clearable_written}
 use Rattle.unlinking.specs.Unlink.{Decided, Inside, Takes, planned, freeing}
 use Rattle.unlinking.specs.declared.Unlinking.{Unlinking}
 use Rattle.unlinking.specs.declared.Unlinking.TheVariants.{Of, No}
-use Rattle.unlinking.proofs.unlink.Statement.{statement}
-use Rattle.unlinking.proofs.unlink.Tie as tie
+use Rattle.unlinking.proofs.unlink.Goals as goal
 
 -- the promise, for an answer and the tables that are left
 abbrev Kept : Tables → List ℕ → Answer → Tables → Type 0
@@ -68,84 +66,19 @@ module _ (b br fr cr bytes : List ℕ) (d : Unlinking) (decided : Decided (table
           keeps (tables b' br'' fr'' cr)
           (rw (ne_eqb g.0 0 some) (clears b' cr ∙ ap (λ (u : Tables). put u (file g.0 no_file)) (took cr)))
 
-decide-unlink-requires : tie.Need-decide-unlink-requires
-decide-unlink-requires c κs = search rules
+pub take_name-requires : goal.take_name-requires
+take_name-requires c = record { i_in_bounds = search small; rewritable = search rewritable }
 
-enum-known-decided : tie.Need-enum-known-decided
-enum-known-decided c = search rules
+pub returns-then-gone-eq0 : goal.returns-then-gone-eq0
+returns-then-gone-eq0 c = search name-taken
 
-enum-known-decided-2 : tie.Need-enum-known-decided-2
-enum-known-decided-2 c = search rules
+pub clear_file-requires : goal.clear_file-requires
+clear_file-requires c =
+    search (clearable _ _ _ _ _ _ c.decide_unlink-decided.ensures _ _ _ c.in-Of.is _ _ _ c.take_name.ensures)
 
-take-name-requires : tie.Need-take-name-requires
-take-name-requires c κs = (search small, search rewritable)
+pub returns-in-No : goal.returns-in-No
+returns-in-No c = search refuses
 
-same_length : tie.Need-same-length
-same_length c = search rules
-
-same-length-2 : tie.Need-same-length-2
-same-length-2 c = search rules
-
-same-length-3 : tie.Need-same-length-3
-same-length-3 c = search rules
-
-returns : tie.Need-returns
-returns c = search name-taken
-
-clear-file-requires : tie.Need-clear-file-requires
-clear-file-requires c κs =
-    let took = c.before.before.before.before.before.before.before.before.before.before in
-    let told = took.before.before.before.before in
-    let decided = told.before.before.before in
-    search (clearable _ _ _ _ _ _ decided.decide-unlink.ensures _ _ _ told.before.decided2.given.1 _ _ _ took.take-name.ensures)
-
-same-length-4 : tie.Need-same-length-4
-same-length-4 c = search rules
-
-same-length-5 : tie.Need-same-length-5
-same-length-5 c = search rules
-
-same-length-6 : tie.Need-same-length-6
-same-length-6 c = search rules
-
-returns-2 : tie.Need-returns-2
-returns-2 c = search refuses
-
-same-length-7 : tie.Need-same-length-7
-same-length-7 c = search rules
-
-same-length-8 : tie.Need-same-length-8
-same-length-8 c = search rules
-
-same-length-9 : tie.Need-same-length-9
-same-length-9 c = search rules
-
-returns-3 : tie.Need-returns-3
-returns-3 c =
-    let cleared-so = c.before.before.before.before in
-    let took = cleared-so.before.before.before.before.before.before.before.before.before.before.before in
-    let told = took.before.before.before.before in
-    let decided = told.before.before.before in
-    search (file-freed _ _ _ _ _ _ decided.decide-unlink.ensures _ _ _ told.before.decided2.given.1 _ _ _ took.take-name.ensures)
-
-pub unlink-spec : {M : Type 1} → statement M
-unlink-spec =
-    tie.close
-    (tie.spec
-    decide-unlink-requires
-    enum-known-decided
-    enum-known-decided-2
-    take-name-requires
-    same_length
-    same-length-2
-    same-length-3
-    returns
-    clear-file-requires
-    same-length-4
-    same-length-5
-    same-length-6
-    returns-2
-    same-length-7
-    same-length-8
-    same-length-9
-    returns-3)
+pub returns-else-gone-eq0 : goal.returns-else-gone-eq0
+returns-else-gone-eq0 c =
+    search (file-freed _ _ _ _ _ _ c.decide_unlink-decided.ensures _ _ _ c.in-Of.is _ _ _ c.take_name.ensures)

@@ -4,7 +4,6 @@ use mathlib.Core.Path.{◌≡◌, refl, sym, ap₂, ◌∙◌}
 use mathlib.Core.Logic.{◌≢◌}
 use mathlib.Core.List.{List, [], ◌∷◌}
 use mathlib.Core.Bool.{Bool, true, false}
-use borrow.Author.Rules.{rules}
 use Rattle.meaning.specs.Store.{Change, file, after, is_directory, named, let_go}
 use Rattle.meaning.specs.Tables.{Tables, tables, store_of}
 use Rattle.meaning.specs.NameCalls.{parent, record_for, unnaming, unlink}
@@ -28,8 +27,7 @@ use Rattle.counts.specs.Gone.{gone_with}
 use Rattle.unlinking.specs.Unlink.{Decided}
 use Rattle.unlinking.specs.UnlinkLaws.{ordinary, deep, in_directory_lem, to_last, its_record, its_end, takes}
 use Rattle.unlinking.specs.declared.Unlinking.TheVariants.{Of, No}
-use Rattle.unlinking.proofs.decide_unlink.Statement.{statement}
-use Rattle.unlinking.proofs.decide_unlink.Tie as tie
+use Rattle.unlinking.proofs.decide_unlink.Goals as goal
 
 abbrev rest : Tables → List (List ℕ) → Result
 rest t name =
@@ -105,51 +103,23 @@ module _ (b br fr cr bytes : List ℕ) (h : Judged) (on : OnName (tables b br fr
       unlinks_so : (i : ℕ) → Recorded (filed b br fr) bytes i → (g : FileNo) → g.0 ≡ gone_with (store_of t) x.file.0 → Decided t bytes (Of x.parent i g)
       unlinks_so i r g gone = unlinks t bytes k x at some v tells isnt i (found_record b br fr cr bytes k x at i r) g gone
 
-judge-name-requires : tie.Need-judge-name-requires
-judge-name-requires c κs = search rules
+pub locate-at-requires : goal.locate-at-requires
+locate-at-requires c = record { shelves = search located_shelves; k_counted = search located_counted }
 
-enum-known-judged : tie.Need-enum-known-judged
-enum-known-judged c = search rules
+pub returns-then-f-eq0 : goal.returns-then-f-eq0
+returns-then-f-eq0 c = search missing_so
 
-enum-known-judged-2 : tie.Need-enum-known-judged-2
-enum-known-judged-2 c = search rules
+pub returns-then-is_directory : goal.returns-then-is_directory
+returns-then-is_directory c = search directory_so
 
-locate-requires : tie.Need-locate-requires
-locate-requires c κs = (search located_shelves, search located_counted)
+pub record_for-i-requires : goal.record_for-i-requires
+record_for-i-requires c = search in_place
 
-returns : tie.Need-returns
-returns c = search missing_so
+pub gone_with-gone-requires : goal.gone_with-gone-requires
+gone_with-gone-requires c = search of_store
 
-is-directory-requires : tie.Need-is-directory-requires
-is-directory-requires c κs = search rules
+pub returns-in-Refused : goal.returns-in-Refused
+returns-in-Refused c = search refusal
 
-returns-2 : tie.Need-returns-2
-returns-2 c = search directory_so
-
-record-for-requires : tie.Need-record-for-requires
-record-for-requires c κs = search in_place
-
-gone-with-requires : tie.Need-gone-with-requires
-gone-with-requires c κs = search of_store
-
-returns-3 : tie.Need-returns-3
-returns-3 c = search refusal
-
-returns-4 : tie.Need-returns-4
-returns-4 c = search unlinks_so
-
-pub decide-unlink-spec : {M : Type 1} → statement M
-decide-unlink-spec =
-    tie.close
-    (tie.spec
-    judge-name-requires
-    enum-known-judged
-    enum-known-judged-2
-    locate-requires
-    returns
-    is-directory-requires
-    returns-2
-    record-for-requires
-    gone-with-requires
-    returns-3
-    returns-4)
+pub returns-else-is_directory : goal.returns-else-is_directory
+returns-else-is_directory c = search unlinks_so
