@@ -4,7 +4,6 @@ use mathlib.Core.Path.{◌≡◌, refl, ◌∙◌}
 use mathlib.Core.Logic.{◌≢◌}
 use mathlib.Core.List.{List, [], ◌∷◌}
 use native.Mathlib.Omega.{arith}
-use borrow.Author.Rules.{rules}
 use Rattle.meaning.specs.Store.{channel, channel_to, named, free_channel}
 use Rattle.meaning.specs.Tables.{Tables, tables, store_of, channel_count}
 use Rattle.meaning.specs.NameCalls.{open'}
@@ -27,8 +26,7 @@ use Rattle.naming.specs.declared.Judged.TheVariants.{Syllables, Refused}
 use Rattle.naming.specs.declared.Located.{Located}
 use Rattle.opening.specs.Open.{Decided}
 use Rattle.opening.specs.declared.Opening.TheVariants.{Of, No}
-use Rattle.opening.proofs.decide_open.Statement.{statement}
-use Rattle.opening.proofs.decide_open.Tie as tie
+use Rattle.opening.proofs.decide_open.Goals as goal
 
 abbrev rest : Tables → List (List ℕ) → Result
 rest t name =
@@ -82,51 +80,20 @@ module _ (b br fr cr bytes : List ℕ) (h : Judged) (on : OnName (tables b br fr
     opened : (c : ChannelNo) → y ≡ F.At c → Decided (tables b br fr cr) bytes (Of c x.file)
     opened = opens (tables b br fr cr) bytes k x at some y found
 
-judge-name-requires : tie.Need-judge-name-requires
-judge-name-requires c κs = search rules
+pub locate-at-requires : goal.locate-at-requires
+locate-at-requires c = record { shelves = search located_shelves; k_counted = search located_counted }
 
-enum-known-judged : tie.Need-enum-known-judged
-enum-known-judged c = search rules
+pub returns-then-f-eq0 : goal.returns-then-f-eq0
+returns-then-f-eq0 c = search missing_so
 
-enum-known-judged-2 : tie.Need-enum-known-judged-2
-enum-known-judged-2 c = search rules
+pub find_channel-requires : goal.find_channel-requires
+find_channel-requires c = search few-channels
 
-locate-requires : tie.Need-locate-requires
-locate-requires c κs = (search located_shelves, search located_counted)
+pub returns-in_default : goal.returns-in_default
+returns-in_default c = search all_open_lem
 
-returns : tie.Need-returns
-returns c = search missing_so
+pub returns-in-Refused : goal.returns-in-Refused
+returns-in-Refused c = search refusal
 
-find-channel-requires : tie.Need-find-channel-requires
-find-channel-requires c κs = search few-channels
-
-enum-known-c : tie.Need-enum-known-c
-enum-known-c c = search rules
-
-enum_told : tie.Need-enum-told
-enum_told c = search rules
-
-returns-2 : tie.Need-returns-2
-returns-2 c = search all_open_lem
-
-returns-3 : tie.Need-returns-3
-returns-3 c = search refusal
-
-returns-4 : tie.Need-returns-4
-returns-4 c = search opened
-
-pub decide-open-spec : {M : Type 1} → statement M
-decide-open-spec =
-    tie.close
-    (tie.spec
-    judge-name-requires
-    enum-known-judged
-    enum-known-judged-2
-    locate-requires
-    returns
-    find-channel-requires
-    enum-known-c
-    enum_told
-    returns-2
-    returns-3
-    returns-4)
+pub returns-in-At : goal.returns-in-At
+returns-in-At c = search opened

@@ -5,7 +5,6 @@ use mathlib.Core.Logic.{◌≢◌}
 use mathlib.Core.List.{List}
 use mathlib.Core.Bool.{Bool, true, false}
 use native.Mathlib.Omega.{arith}
-use borrow.Author.Rules.{rules}
 use Rattle.meaning.specs.Store.{is_directory}
 use Rattle.meaning.specs.Tables.{Tables, tables, channel_count}
 use Rattle.meaning.specs.declared.Report.TheVariants.{IsDirectory, NoFreeCids}
@@ -25,8 +24,7 @@ use Rattle.naming.specs.declared.Located.{Located}
 use Rattle.opening.specs.Create.{NewName, Created}
 use Rattle.opening.specs.CreateCases.{create-refusal, old-directory, old_no_channel, old_emptied}
 use Rattle.opening.specs.declared.Creating.TheVariants.{Old, No}
-use Rattle.opening.proofs.decide_create.Statement.{statement}
-use Rattle.opening.proofs.decide_create.Tie as tie
+use Rattle.opening.proofs.decide_create.Goals as goal
 
 -- over what the code has at hand
 module _ (b br fr cr bytes : List ℕ) (h : Judged) (on : OnName (tables b br fr cr) bytes h) (k : ℕ) (e : h ≡ Syllables k) (x : Located) (l : Locates (filed b br fr) bytes x) where
@@ -53,63 +51,23 @@ module _ (b br fr cr bytes : List ℕ) (h : Judged) (on : OnName (tables b br fr
       emptied_so : (c : ChannelNo) → y ≡ F.At c → Created t bytes (Old c x.file)
       emptied_so = old_emptied t bytes k x at some v tells isnt y found
 
-judge-name-requires : tie.Need-judge-name-requires
-judge-name-requires c κs = search rules
+pub locate-at-requires : goal.locate-at-requires
+locate-at-requires c = record { shelves = search located_shelves; k_counted = search located_counted }
 
-enum-known-judged : tie.Need-enum-known-judged
-enum-known-judged c = search rules
+pub decide_new-requires : goal.decide_new-requires
+decide_new-requires c = search new-name
 
-enum-known-judged-2 : tie.Need-enum-known-judged-2
-enum-known-judged-2 c = search rules
+pub returns-then-is_directory : goal.returns-then-is_directory
+returns-then-is_directory c = search directory_so
 
-locate-requires : tie.Need-locate-requires
-locate-requires c κs = (search located_shelves, search located_counted)
+pub find_channel-requires : goal.find_channel-requires
+find_channel-requires c = search few-channels
 
-decide-new-requires : tie.Need-decide-new-requires
-decide-new-requires c κs = search new-name
+pub returns-in_default : goal.returns-in_default
+returns-in_default c = search no_channel_so
 
-returns : tie.Need-returns
-returns c = search rules
+pub returns-in-Refused : goal.returns-in-Refused
+returns-in-Refused c = search create-refusal
 
-is-directory-requires : tie.Need-is-directory-requires
-is-directory-requires c κs = search rules
-
-returns-2 : tie.Need-returns-2
-returns-2 c = search directory_so
-
-find-channel-requires : tie.Need-find-channel-requires
-find-channel-requires c κs = search few-channels
-
-enum-known-c : tie.Need-enum-known-c
-enum-known-c c = search rules
-
-enum_told : tie.Need-enum-told
-enum_told c = search rules
-
-returns-3 : tie.Need-returns-3
-returns-3 c = search no_channel_so
-
-returns-4 : tie.Need-returns-4
-returns-4 c = search create-refusal
-
-returns-5 : tie.Need-returns-5
-returns-5 c = search emptied_so
-
-pub decide-create-spec : {M : Type 1} → statement M
-decide-create-spec =
-    tie.close
-    (tie.spec
-    judge-name-requires
-    enum-known-judged
-    enum-known-judged-2
-    locate-requires
-    decide-new-requires
-    returns
-    is-directory-requires
-    returns-2
-    find-channel-requires
-    enum-known-c
-    enum_told
-    returns-3
-    returns-4
-    returns-5)
+pub returns-in-At : goal.returns-in-At
+returns-in-At c = search emptied_so

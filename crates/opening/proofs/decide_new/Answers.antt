@@ -4,7 +4,6 @@ use mathlib.Core.Path.{◌≡◌, sym, subst, ◌∙◌}
 use mathlib.Core.List.{List, []}
 use mathlib.Core.Bool.{Bool, true, false, not}
 use native.Mathlib.Omega.{arith}
-use borrow.Author.Rules.{rules}
 use borrow.Author.Tests.{not-true, not-false}
 use Rattle.meaning.specs.Store.{is_directory}
 use Rattle.meaning.specs.Tables.{Tables, tables, store_of, file_count, channel_count, file_length}
@@ -32,8 +31,8 @@ use Rattle.placing.specs.NewName.{few-records, deep}
 use Rattle.opening.specs.Create.{NewName, Created}
 use Rattle.opening.specs.CreateCases.{new-nowhere, new_no_channel, new_no_file, new_refused, new-made, new_here}
 use Rattle.opening.specs.declared.Creating.TheVariants.{New, No}
-use Rattle.opening.proofs.decide_new.Statement.{statement}
-use Rattle.opening.proofs.decide_new.Tie as tie
+use mathlib.Core.Path.{ap}
+use Rattle.opening.proofs.decide_new.Goals as goal
 
 module _ (b br fr cr bytes : List ℕ) (x : Located) (new : NewName b br fr cr bytes x) where
   abbrev t : Tables
@@ -93,75 +92,30 @@ module _ (b br fr cr bytes : List ℕ) (x : Located) (new : NewName b br fr cr b
                 new-made t bytes new.k x at new.none is y found c some-channel z free f some_file i (place i recorded)
                 (subst (FitsIn (free_block_count br) (file_length fr x.parent.0) (max (file_length fr x.parent.0) (16 * i + 16))) e fits)
 
-is-directory-requires : tie.Need-is-directory-requires
-is-directory-requires c κs = search rules
+pub returns-then-not-is_directory : goal.returns-then-not-is_directory
+returns-then-not-is_directory c = search nowhere_so
 
-returns : tie.Need-returns
-returns c = search nowhere_so
+pub find_channel-requires : goal.find_channel-requires
+find_channel-requires c = search few-channels
 
-find-channel-requires : tie.Need-find-channel-requires
-find-channel-requires c κs = search few-channels
+pub returns-in_default : goal.returns-in_default
+returns-in_default c = search no_channel_so
 
-enum-known-c : tie.Need-enum-known-c
-enum-known-c c = search rules
+pub find_file-requires : goal.find_file-requires
+find_file-requires c = search few-files
 
-enum_told : tie.Need-enum-told
-enum_told c = search rules
+pub returns-in_default-find_file : goal.returns-in_default-find_file
+returns-in_default-find_file c = search no_file_so
 
-returns-2 : tie.Need-returns-2
-returns-2 c = search no_channel_so
+pub record_for-i-requires : goal.record_for-i-requires
+record_for-i-requires c = search in_place
 
-find-file-requires : tie.Need-find-file-requires
-find-file-requires c κs = search few-files
+pub record_fits-fit-requires : goal.record_fits-fit-requires
+record_fits-fit-requires c =
+    record { d_is_directory = search is; length_in_bounds = few _ _ _ _ _ _ c.requires _ c.is_directory.ensures (ap not c.if-not-is_directory.false) _ c.record_for-i.ensures }
 
-enum-known-new : tie.Need-enum-known-new
-enum-known-new c = search rules
+pub returns-in-No : goal.returns-in-No
+returns-in-No c = search refused_so
 
-enum-told-2 : tie.Need-enum-told-2
-enum-told-2 c = search rules
-
-returns-3 : tie.Need-returns-3
-returns-3 c = search no_file_so
-
-record-for-requires : tie.Need-record-for-requires
-record-for-requires c κs = search in_place
-
-record-fits-requires : tie.Need-record-fits-requires
-record-fits-requires c κs =
-    let tested = c.before.before.before.before.before.before.before.before.before in
-    let asked = tested.before in
-    let start = asked.before.before.before.before.before.before.before in
-    (search is, few _ _ _ _ _ _ start.requires _ asked.is_directory_lem.ensures tested.if1.false _ c.record-for.ensures)
-
-enum-known-fit : tie.Need-enum-known-fit
-enum-known-fit c = search rules
-
-enum-told-3 : tie.Need-enum-told-3
-enum-told-3 c = search rules
-
-returns-4 : tie.Need-returns-4
-returns-4 c = search refused_so
-
-returns-5 : tie.Need-returns-5
-returns-5 c = search made_so
-
-pub decide-new-spec : {M : Type 1} → statement M
-decide-new-spec =
-    tie.close
-    (tie.spec
-    is-directory-requires
-    returns
-    find-channel-requires
-    enum-known-c
-    enum_told
-    returns-2
-    find-file-requires
-    enum-known-new
-    enum-told-2
-    returns-3
-    record-for-requires
-    record-fits-requires
-    enum-known-fit
-    enum-told-3
-    returns-4
-    returns-5)
+pub returns-in-Fits : goal.returns-in-Fits
+returns-in-Fits c = search made_so

@@ -4,7 +4,6 @@ use Prim.Native.Nat.{ℕ, ◌-◌, ◌≤◌, ◌<◌}
 use mathlib.Core.Path.{◌≡◌, sym, ap, subst, ◌∙◌}
 use mathlib.Core.List.{List, [], ◌∷◌}
 use mathlib.Core.Bool.{true}
-use borrow.Author.Rules.{rules}
 use lib.ListN.{length}
 use Rattle.records.specs.Numbers.{with_record}
 use Rattle.meaning.specs.Name.{is_syllable}
@@ -23,8 +22,7 @@ use Rattle.recording.specs.AfterRecord.{Written, clearable_written}
 use Rattle.opening.specs.Create.{Created, InsideNew, Empties, Makes, planned_new}
 use Rattle.opening.specs.declared.Creating.{Creating}
 use Rattle.opening.specs.declared.Creating.TheVariants.{Old, New, No}
-use Rattle.opening.proofs.create.Statement.{statement}
-use Rattle.opening.proofs.create.Tie as tie
+use Rattle.opening.proofs.create.Goals as goal
 
 -- the promise, for an answer and the tables that are left
 abbrev Kept : Tables → List ℕ → Answer → Tables → Type 0
@@ -91,124 +89,35 @@ module _ (b br fr cr bytes : List ℕ) (d : Creating) (decided : Created (tables
           (channel_put b' br'' fr'' cr cr' (put (put t given) (file f.0 (ordinary []))) c.0 f.0
           (clears b' cr ∙ ap (λ (u : Tables). put u (file f.0 (ordinary []))) (gave cr)) q)
 
-decide-create-requires : tie.Need-decide-create-requires
-decide-create-requires c κs = search rules
+pub clear_file-requires : goal.clear_file-requires
+clear_file-requires c = search old_clears
 
-enum-known-decided : tie.Need-enum-known-decided
-enum-known-decided c = search rules
+pub put_channel_record-requires : goal.put_channel_record-requires
+put_channel_record-requires c =
+    old_channel _ _ _ _ _ _ c.decide_create-decided.ensures _ _ c.in-Old.is
 
-enum-known-decided-2 : tie.Need-enum-known-decided-2
-enum-known-decided-2 c = search rules
+pub give_name-requires : goal.give_name-requires
+give_name-requires c =
+    let decided = c.decide_create-decided.ensures in
+    record { record_fits = name-given _ _ _ _ _ _ decided _ _ _ _ c.in-New.is; rewritable = rewritable _ _ _ _ _ _ decided _ _ _ _ c.in-New.is }
 
-clear-file-requires : tie.Need-clear-file-requires
-clear-file-requires c κs = search old_clears
+pub clear_file-requires-in-New : goal.clear_file-requires-in-New
+clear_file-requires-in-New c =
+    new_clears _ _ _ _ _ _ c.decide_create-decided.ensures _ _ _ _ c.in-New.is _ _ _ c.give_name.ensures
 
-put-channel-record-requires : tie.Need-put-channel-record-requires
-put-channel-record-requires c κs =
-    let known = c.before.before.before.before.before.before.before.before.before in
-    old_channel _ _ _ _ _ _ known.before.before.decide-create.ensures _ _ known.decided2.given.1
+pub put_channel_record-requires-in-New : goal.put_channel_record-requires-in-New
+put_channel_record-requires-in-New c =
+    new_channel _ _ _ _ _ _ c.decide_create-decided.ensures _ _ _ _ c.in-New.is
 
-enum-known-decided-3 : tie.Need-enum-known-decided-3
-enum-known-decided-3 c = search rules
+pub returns-in-No : goal.returns-in-No
+returns-in-No c = search refuses
 
-give-name-requires : tie.Need-give-name-requires
-give-name-requires c κs =
-    let known = c.before.before.before.before in
-    let decided = known.before.before.decide-create.ensures in
-    (name-given _ _ _ _ _ _ decided _ _ _ _ known.decided3.given.1, rewritable _ _ _ _ _ _ decided _ _ _ _ known.decided3.given.1)
+pub returns-in-Old : goal.returns-in-Old
+returns-in-Old c =
+    search (old_emptied _ _ _ _ _ _ c.decide_create-decided.ensures _ _ c.in-Old.is _ _ c.clear_file.ensures _
+    c.put_channel_record.ensures)
 
-clear-file-requires-2 : tie.Need-clear-file-requires-2
-clear-file-requires-2 c κs =
-    let gave = c.before.before.before.before.before.before.before.before in
-    let known = gave.before.before.before.before.before in
-    new_clears _ _ _ _ _ _ known.before.before.decide-create.ensures _ _ _ _ known.decided3.given.1 _ _ _ gave.give-name.ensures
-
-put-channel-record-requires-2 : tie.Need-put-channel-record-requires-2
-put-channel-record-requires-2 c κs =
-    let known = c.before.before.before.before.before.before.before.before.before.before.before.before.before.before.before.before.before.before.before in
-    new_channel _ _ _ _ _ _ known.before.before.decide-create.ensures _ _ _ _ known.decided3.given.1
-
-same_length : tie.Need-same-length
-same_length c = search rules
-
-same-length-2 : tie.Need-same-length-2
-same-length-2 c = search rules
-
-same-length-3 : tie.Need-same-length-3
-same-length-3 c = search rules
-
-same-length-4 : tie.Need-same-length-4
-same-length-4 c = search rules
-
-same-length-5 : tie.Need-same-length-5
-same-length-5 c = search rules
-
-same-length-6 : tie.Need-same-length-6
-same-length-6 c = search rules
-
-same-length-7 : tie.Need-same-length-7
-same-length-7 c = search rules
-
-same-length-8 : tie.Need-same-length-8
-same-length-8 c = search rules
-
-same-length-9 : tie.Need-same-length-9
-same-length-9 c = search rules
-
-same-length-10 : tie.Need-same-length-10
-same-length-10 c = search rules
-
-same-length-11 : tie.Need-same-length-11
-same-length-11 c = search rules
-
-same-length-12 : tie.Need-same-length-12
-same-length-12 c = search rules
-
-returns : tie.Need-returns
-returns c = search refuses
-
-returns-2 : tie.Need-returns-2
-returns-2 c =
-    let put-so = c.before.before in
-    let cleared-so = put-so.before.before.before.before.before.before in
-    let known = cleared-so.before.before.before.before in
-    search (old_emptied _ _ _ _ _ _ known.before.before.decide-create.ensures _ _ known.decided2.given.1 _ _ cleared-so.clear-file.ensures _
-    put-so.put-channel-record.ensures)
-
-returns-3 : tie.Need-returns-3
-returns-3 c =
-    let put-so = c.before.before in
-    let cleared-so = put-so.before.before.before.before.before.before in
-    let gave = cleared-so.before.before.before.before.before.before.before.before.before in
-    let known = gave.before.before.before.before.before in
-    search (new-made _ _ _ _ _ _ known.before.before.decide-create.ensures _ _ _ _ known.decided3.given.1 _ _ _ gave.give-name.ensures _ _
-    cleared-so.clear-file2.ensures _ put-so.put-channel-record2.ensures)
-
-pub create-spec : {M : Type 1} → statement M
-create-spec =
-    tie.close
-    (tie.spec
-    decide-create-requires
-    enum-known-decided
-    enum-known-decided-2
-    clear-file-requires
-    put-channel-record-requires
-    enum-known-decided-3
-    give-name-requires
-    clear-file-requires-2
-    put-channel-record-requires-2
-    same_length
-    same-length-2
-    same-length-3
-    same-length-4
-    returns
-    same-length-5
-    same-length-6
-    same-length-7
-    same-length-8
-    returns-2
-    same-length-9
-    same-length-10
-    same-length-11
-    same-length-12
-    returns-3)
+pub returns-in-New : goal.returns-in-New
+returns-in-New c =
+    search (new-made _ _ _ _ _ _ c.decide_create-decided.ensures _ _ _ _ c.in-New.is _ _ _ c.give_name.ensures _ _
+    c.clear_file-in-New.ensures _ c.put_channel_record-in-New.ensures)
