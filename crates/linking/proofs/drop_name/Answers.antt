@@ -3,7 +3,6 @@ use Prim.Native.Nat.{ℕ}
 use mathlib.Core.Path.{◌≡◌, sym, ap, ◌∙◌}
 use mathlib.Core.List.{List, ◌∷◌}
 use mathlib.Core.Bool.{Bool}
-use borrow.Author.Rules.{rules}
 use Rattle.meaning.specs.Store.{file}
 use Rattle.meaning.specs.Name.{blank_record}
 use Rattle.meaning.specs.Tables.{tables, store_of, put, put_all}
@@ -11,8 +10,7 @@ use Rattle.meaning.specs.NameCalls.{rewritten}
 use Rattle.linking.specs.Act.{last_goes, freed, drop_changes}
 use Rattle.linking.specs.ThenGo.{may_go, then_go}
 use Rattle.linking.specs.declared.Plan.{Plan}
-use Rattle.linking.proofs.drop_name.Statement.{statement}
-use Rattle.linking.proofs.drop_name.Tie as tie
+use Rattle.linking.proofs.drop_name.Goals as goal
 
 drops : (b br fr : List ℕ) (p : Plan) (i : ℕ) (b' br' fr' : List ℕ)
     → ((channels : List ℕ) → tables b' br' fr' channels
@@ -26,40 +24,10 @@ drops b br fr p i b' br' fr' taken t is br'' fr'' gone channels =
     ∙ ap (λ (u : Bool). put_all (tables b br fr channels)
     (file p.from.parent.0 (rewritten (store_of (tables b br fr channels)) p.from.parent.0 i blank_record) ∷ freed u p.from.file.0)) is
 
-take-name-requires : tie.Need-take-name-requires
-take-name-requires c κs = search rules
+pub let_go-requires : goal.let_go-requires
+let_go-requires c =
+    may_go _ _ _ _ _ _ _ _ _ c.take_name.ensures c.requires.taking _ _ (λ e. c.requires.own (sym c.last_goes.ensures ∙ e))
 
-last-goes-requires : tie.Need-last-goes-requires
-last-goes-requires c κs = search rules
-
-let-go-requires : tie.Need-let-go-requires
-let-go-requires c κs =
-    let taken = c.before.before.before.before.before.before.before.before.before in
-    let start = taken.before.before.before.before.before.before.before in
-    may_go _ _ _ _ _ _ _ _ _ taken.take-name.ensures start.requires.taking _ _ (λ e. start.requires.own (sym c.last_Goes.ensures ∙ e))
-
-same_length : tie.Need-same-length
-same_length c = search rules
-
-same-length-2 : tie.Need-same-length-2
-same-length-2 c = search rules
-
-same-length-3 : tie.Need-same-length-3
-same-length-3 c = search rules
-
-returns : tie.Need-returns
+pub returns : goal.returns
 returns c =
-    let gone = c.before.before.before.before in
-    drops _ _ _ _ _ _ _ _ gone.before.before.before.before.before.before.before.before.before.before.take-name.ensures _ gone.before.last_Goes.ensures _ _ gone.let_go_lem.ensures
-
-pub drop-name-spec : {M : Type 1} → statement M
-drop-name-spec =
-    tie.close
-    (tie.spec
-    take-name-requires
-    last-goes-requires
-    let-go-requires
-    same_length
-    same-length-2
-    same-length-3
-    returns)
+    drops _ _ _ _ _ _ _ _ c.take_name.ensures _ c.last_goes.ensures _ _ c.let_go.ensures

@@ -7,8 +7,7 @@ use borrow.Author.Tests.{eq-eqb, ne_eqb}
 use Rattle.records.specs.Tests.{and_false}
 use Rattle.linking.specs.Act.{goes}
 use Rattle.linking.specs.declared.Plan.{Plan}
-use Rattle.linking.proofs.replaced_goes.Statement.{statement}
-use Rattle.linking.proofs.replaced_goes.Tie as tie
+use Rattle.linking.proofs.replaced_goes.Goals as goal
 
 same-file : (p : Plan) → p.to.file.0 ≡ p.from.file.0 → false ≡ goes p
 unfolding goes
@@ -27,11 +26,8 @@ other-file p d = go p.lone (eqb p.to.file.0 p.from.file.0) (ne_eqb p.to.file.0 p
     go true false e = refl
     go false t e = refl
 
-returns : tie.Need-returns
-returns c = search same-file
+pub returns-then-plan : goal.returns-then-plan
+returns-then-plan c = search same-file
 
-returns-2 : tie.Need-returns-2
-returns-2 c = search other-file
-
-pub replaced-goes-spec : {M : Type 1} → statement M
-replaced-goes-spec = tie.close (tie.spec returns returns-2)
+pub returns : goal.returns
+returns c = search other-file

@@ -2,7 +2,6 @@
 use Prim.Native.Nat.{ℕ}
 use mathlib.Core.Path.{◌≡◌, refl}
 use mathlib.Core.List.{List, []}
-use borrow.Author.Rules.{rules}
 use Rattle.meaning.specs.Tables.{Tables, tables, store_of, put_all}
 use Rattle.meaning.specs.Run.{Call, Promise}
 use Rattle.meaning.specs.Answers.{reported}
@@ -15,8 +14,7 @@ use Rattle.linking.specs.ActLaws.{means, linkable}
 use Rattle.linking.specs.declared.Plan.{Plan}
 use Rattle.linking.specs.declared.Linking.{Linking}
 use Rattle.linking.specs.declared.Linking.TheVariants.{Of, No}
-use Rattle.linking.proofs.link.Statement.{statement}
-use Rattle.linking.proofs.link.Tie as tie
+use Rattle.linking.proofs.link.Goals as goal
 
 module _ (b br fr cr old new : List ℕ) (d : Linking) (decided : Decides (tables b br fr cr) old new d) where
   abbrev t : Tables
@@ -35,55 +33,11 @@ module _ (b br fr cr old new : List ℕ) (d : Linking) (decided : Decides (table
         kept_done (Call.Link old new) t [] [] [] (link_changes (store_of t) new p) (means t old new p (accepts-link t old new d decided p e))
         (tables b' br' fr' cr) (made cr)
 
-decide-link-requires : tie.Need-decide-link-requires
-decide-link-requires c κs = search rules
+pub make_link-requires : goal.make_link-requires
+make_link-requires c = able _ _ _ _ _ _ _ c.decide_link-decided.ensures _ c.in-Of.is
 
-enum-known-decided : tie.Need-enum-known-decided
-enum-known-decided c = search rules
+pub returns-in-No : goal.returns-in-No
+returns-in-No c = search refuses
 
-enum-known-decided-2 : tie.Need-enum-known-decided-2
-enum-known-decided-2 c = search rules
-
-make-link-requires : tie.Need-make-link-requires
-make-link-requires c κs = able _ _ _ _ _ _ _ c.before.before.before.before.before.before.decide-link.ensures _ c.before.before.before.before.decided2.given.1
-
-same_length : tie.Need-same-length
-same_length c = search rules
-
-same-length-2 : tie.Need-same-length-2
-same-length-2 c = search rules
-
-same-length-3 : tie.Need-same-length-3
-same-length-3 c = search rules
-
-returns : tie.Need-returns
-returns c = search refuses
-
-same-length-4 : tie.Need-same-length-4
-same-length-4 c = search rules
-
-same-length-5 : tie.Need-same-length-5
-same-length-5 c = search rules
-
-same-length-6 : tie.Need-same-length-6
-same-length-6 c = search rules
-
-returns-2 : tie.Need-returns-2
-returns-2 c = search links
-
-pub link-spec : {M : Type 1} → statement M
-link-spec =
-    tie.close
-    (tie.spec
-    decide-link-requires
-    enum-known-decided
-    enum-known-decided-2
-    make-link-requires
-    same_length
-    same-length-2
-    same-length-3
-    returns
-    same-length-4
-    same-length-5
-    same-length-6
-    returns-2)
+pub returns-in-Of : goal.returns-in-Of
+returns-in-Of c = search links

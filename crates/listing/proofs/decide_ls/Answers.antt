@@ -5,7 +5,6 @@ use mathlib.Core.Logic.{◌≢◌}
 use mathlib.Core.List.{List, [], ◌∷◌}
 use mathlib.Core.Bool.{Bool, true, false, not}
 use native.Mathlib.Omega.{arith}
-use borrow.Author.Rules.{rules}
 use borrow.Author.Tests.{lt-ltb, le-ltb, not-true, not-false}
 use lib.Dec.{ltb}
 use Rattle.records.specs.LoopLaws.{how_many-within}
@@ -31,8 +30,7 @@ use Rattle.listing.specs.Names.{place_count, place_names}
 use Rattle.listing.specs.Listed.{listed_lies, listed_count, listed_names, listed_length}
 use Rattle.listing.specs.List.{Decided}
 use Rattle.listing.specs.declared.Listing.TheVariants.{Of, No}
-use Rattle.listing.proofs.decide_ls.Statement.{statement}
-use Rattle.listing.proofs.decide_ls.Tie as tie
+use Rattle.listing.proofs.decide_ls.Goals as goal
 
 abbrev rest : Tables → ℕ → List (List ℕ) → Result
 rest t size name =
@@ -122,63 +120,32 @@ module _ (b br fr cr bytes : List ℕ) (size : ℕ) (h : Judged) (on : OnName (t
           listed : 14 * names ≤ size → Decided (tables b br fr cr) bytes size (Of x.file count names)
           listed = lists (tables b br fr cr) bytes size k x at some v seen (not-false v n) count counted names has
 
-judge-name-requires : tie.Need-judge-name-requires
-judge-name-requires c κs = search rules
+pub locate-at-requires : goal.locate-at-requires
+locate-at-requires c = record { shelves = search located_shelves; k_counted = search located_counted }
 
-enum-known-judged : tie.Need-enum-known-judged
-enum-known-judged c = search rules
+pub returns-then-f-eq0 : goal.returns-then-f-eq0
+returns-then-f-eq0 c = search missing_so
 
-enum-known-judged-2 : tie.Need-enum-known-judged-2
-enum-known-judged-2 c = search rules
+pub returns-then-not-is_directory : goal.returns-then-not-is_directory
+returns-then-not-is_directory c = search plain_so
 
-locate-requires : tie.Need-locate-requires
-locate-requires c κs = (search located_shelves, search located_counted)
+pub record_count-count-requires : goal.record_count-count-requires
+record_count-count-requires c = sym c.is_directory.ensures ∙ not-false _ (ap not c.if-not-is_directory.false)
 
-returns : tie.Need-returns
-returns c = search missing_so
+pub count_names-names-requires : goal.count_names-names-requires
+count_names-names-requires c = search lies_so
 
-is-directory-requires : tie.Need-is-directory-requires
-is-directory-requires c κs = search rules
+pub overflow_mul-names : goal.overflow_mul-names
+overflow_mul-names c = let small : c.count_names-names.result ≤ 2048 = search few in omega arith
 
-returns-2 : tie.Need-returns-2
-returns-2 c = search plain_so
+pub returns-then-size-names : goal.returns-then-size-names
+returns-then-size-names c = search short_so
 
-record-count-requires : tie.Need-record-count-requires
-record-count-requires c κs = sym c.before.is_directory_lem.ensures ∙ not-false _ c.if2.false
+pub overflow_cast-result : goal.overflow_cast-result
+overflow_cast-result c = let small : c.count_names-names.result ≤ 2048 = search few in omega arith
 
-count-names-requires : tie.Need-count-names-requires
-count-names-requires c κs = search lies_so
+pub returns-in-Refused : goal.returns-in-Refused
+returns-in-Refused c = search refusal
 
-mul-if3 : tie.Need-overflow-mul-if3
-mul-if3 c = let small : c.count-names.result ≤ 2048 = search few in omega arith
-
-returns-3 : tie.Need-returns-3
-returns-3 c = search short_so
-
-cast-t21 : tie.Need-overflow-cast-t21
-cast-t21 c = let small : c.before.count-names.result ≤ 2048 = search few in omega arith
-
-returns-4 : tie.Need-returns-4
-returns-4 c = search refusal
-
-returns-5 : tie.Need-returns-5
-returns-5 c = search listed
-
-pub decide-ls-spec : {M : Type 1} → statement M
-decide-ls-spec =
-    tie.close
-    (tie.spec
-    judge-name-requires
-    enum-known-judged
-    enum-known-judged-2
-    locate-requires
-    returns
-    is-directory-requires
-    returns-2
-    record-count-requires
-    count-names-requires
-    mul-if3
-    returns-3
-    cast-t21
-    returns-4
-    returns-5)
+pub returns-else-size-names : goal.returns-else-size-names
+returns-else-size-names c = search listed

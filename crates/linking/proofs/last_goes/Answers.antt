@@ -7,8 +7,7 @@ use borrow.Author.Tests.{eq-eqb, ne_eqb}
 use Rattle.records.specs.Tests.{and_false}
 use Rattle.linking.specs.Act.{last_goes}
 use Rattle.linking.specs.declared.Plan.{Plan}
-use Rattle.linking.proofs.last_goes.Statement.{statement}
-use Rattle.linking.proofs.last_goes.Tie as tie
+use Rattle.linking.proofs.last_goes.Goals as goal
 
 other-file : (p : Plan) → p.to.file.0 ≢ p.from.file.0 → false ≡ last_goes p
 unfolding last_goes
@@ -26,11 +25,8 @@ same-file p e = go p.lone (eqb p.to.file.0 p.from.file.0) (eq-eqb p.to.file.0 p.
     go true t e = sym e
     go false t e = refl
 
-returns : tie.Need-returns
-returns c = search other-file
+pub returns-then-plan : goal.returns-then-plan
+returns-then-plan c = search other-file
 
-returns-2 : tie.Need-returns-2
-returns-2 c = search same-file
-
-pub last-goes-spec : {M : Type 1} → statement M
-last-goes-spec = tie.close (tie.spec returns returns-2)
+pub returns : goal.returns
+returns c = search same-file

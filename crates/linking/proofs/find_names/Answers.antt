@@ -2,7 +2,6 @@
 use Prim.Native.Nat.{ℕ, ◌-◌}
 use mathlib.Core.Path.{◌≡◌, sym, ◌∙◌}
 use mathlib.Core.List.{List}
-use borrow.Author.Rules.{rules}
 use Rattle.meaning.specs.Name.{syllables}
 use Rattle.meaning.specs.Tables.{tables}
 use Rattle.meaning.specs.Result.{unless, with_syllables, on_name}
@@ -21,8 +20,7 @@ use Rattle.naming.specs.declared.Judged.TheVariants as J
 use Rattle.naming.specs.declared.Located.{Located}
 use Rattle.linking.specs.Names.{on_names, FindsNames}
 use Rattle.linking.specs.declared.Names.TheVariants.{Found, Refused}
-use Rattle.linking.proofs.find_names.Statement.{statement}
-use Rattle.linking.proofs.find_names.Tie as tie
+use Rattle.linking.proofs.find_names.Goals as goal
 
 module _ (b br fr cr old new : List ℕ) (h : Judged) (on : OnName (tables b br fr cr) old h) where
   old_refused : (why : Report) → h ≡ J.Refused why → FindsNames (tables b br fr cr) old new (Refused why)
@@ -53,51 +51,17 @@ module _ (b br fr cr old new : List ℕ) (h : Judged) (on : OnName (tables b br 
             };
           }
 
-judge-name-requires : tie.Need-judge-name-requires
-judge-name-requires c κs = search rules
+pub locate-from-requires : goal.locate-from-requires
+locate-from-requires c = record { shelves = search located_shelves; k_counted = search located_counted }
 
-enum-known-judged : tie.Need-enum-known-judged
-enum-known-judged c = search rules
+pub locate-to-requires : goal.locate-to-requires
+locate-to-requires c = record { shelves = search located_shelves; k_counted = search new-counted }
 
-enum-known-judged-2 : tie.Need-enum-known-judged-2
-enum-known-judged-2 c = search rules
+pub returns-in-Refused : goal.returns-in-Refused
+returns-in-Refused c = search old_refused
 
-name-form-requires : tie.Need-name-form-requires
-name-form-requires c κs = search rules
+pub returns-in-Bad : goal.returns-in-Bad
+returns-in-Bad c = search new_bad
 
-enum_told : tie.Need-enum-told
-enum_told c = search rules
-
-enum-known-form : tie.Need-enum-known-form
-enum-known-form c = search rules
-
-locate-requires : tie.Need-locate-requires
-locate-requires c κs = (search located_shelves, search located_counted)
-
-locate-requires-2 : tie.Need-locate-requires-2
-locate-requires-2 c κs = (search located_shelves, search new-counted)
-
-returns : tie.Need-returns
-returns c = search old_refused
-
-returns-2 : tie.Need-returns-2
-returns-2 c = search new_bad
-
-returns-3 : tie.Need-returns-3
-returns-3 c = search found
-
-pub find-names-spec : {M : Type 1} → statement M
-find-names-spec =
-    tie.close
-    (tie.spec
-    judge-name-requires
-    enum-known-judged
-    enum-known-judged-2
-    name-form-requires
-    enum_told
-    enum-known-form
-    locate-requires
-    locate-requires-2
-    returns
-    returns-2
-    returns-3)
+pub returns-in-Syllables-form : goal.returns-in-Syllables-form
+returns-in-Syllables-form c = search found

@@ -13,8 +13,7 @@ use Rattle.meaning.specs.Sound.{sound}
 use Rattle.counts.specs.OfStore.{OfStore, of_store}
 use Rattle.counts.specs.Gone.{gone_with}
 use Rattle.linking.specs.Link.{lone}
-use Rattle.linking.proofs.is_lone.Statement.{statement}
-use Rattle.linking.proofs.is_lone.Tie as tie
+use Rattle.linking.proofs.is_lone.Goals as goal
 
 of_tables : (b br fr cr : List ℕ) (g : ℕ) → sound (tables b br fr cr) ≡ true → g ≤ file_count fr → OfStore b br fr g
 of_tables b br fr cr g ok last = of_store (tables b br fr cr) ok g last
@@ -31,14 +30,11 @@ some_goes s g gone e = rw e (go (eqb (names s g) 1 && not (held s g)))
     go true = sym (and-true (not (eqb g 0)))
     go false = sym (and_false (not (eqb g 0)))
 
-returns : tie.Need-returns
-returns c = search no_file_lem
+pub returns-then-g-eq0 : goal.returns-then-g-eq0
+returns-then-g-eq0 c = search no_file_lem
 
-gone-with-requires : tie.Need-gone-with-requires
-gone-with-requires c κs = search of_tables
+pub gone_with-requires : goal.gone_with-requires
+gone_with-requires c = search of_tables
 
-returns-2 : tie.Need-returns-2
-returns-2 c = search some_goes
-
-pub is-lone-spec : {M : Type 1} → statement M
-is-lone-spec = tie.close (tie.spec returns gone-with-requires returns-2)
+pub returns : goal.returns
+returns c = search some_goes

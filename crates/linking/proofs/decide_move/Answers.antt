@@ -3,7 +3,6 @@ use Prim.Native.Nat.{ℕ}
 use mathlib.Core.Path.{◌≡◌, sym, ap, ◌∙◌}
 use mathlib.Core.List.{List}
 use native.Mathlib.Omega.{arith}
-use borrow.Author.Rules.{rules}
 use Rattle.meaning.specs.Store.{is_directory}
 use Rattle.meaning.specs.Tables.{tables, store_of}
 use Rattle.meaning.specs.declared.Report.{Report}
@@ -18,8 +17,7 @@ use Rattle.linking.specs.declared.Plan.{Plan}
 use Rattle.linking.specs.declared.Linking.{Linking}
 use Rattle.linking.specs.declared.Linking.TheVariants as L
 use Rattle.linking.specs.declared.Moving.TheVariants.{Of, No}
-use Rattle.linking.proofs.decide_move.Statement.{statement}
-use Rattle.linking.proofs.decide_move.Tie as tie
+use Rattle.linking.proofs.decide_move.Goals as goal
 
 module _ (b br fr cr old new : List ℕ) (d : Linking) (decided : Decides (tables b br fr cr) old new d) where
   refuses : (why : Report) → d ≡ L.No why → DecidesMove (tables b br fr cr) old new (No why)
@@ -47,31 +45,11 @@ module _ (b br fr cr old new : List ℕ) (d : Linking) (decided : Decides (table
     movable i recorded =
         record { case = record { accepted = a; taken = recorded.place a.both.old-name.at.name a.both.old-name.at.is ∙ record_seen b br fr cr a.both.old-name.at.name } }
 
-decide-link-requires : tie.Need-decide-link-requires
-decide-link-requires c κs = search rules
+pub record_for-i-requires : goal.record_for-i-requires
+record_for-i-requires c = in_place _ _ _ _ _ _ _ c.decide_link-decided.ensures _ c.in-Of.is
 
-enum-known-decided : tie.Need-enum-known-decided
-enum-known-decided c = search rules
+pub returns-in-No : goal.returns-in-No
+returns-in-No c = search refuses
 
-enum-known-decided-2 : tie.Need-enum-known-decided-2
-enum-known-decided-2 c = search rules
-
-record-for-requires : tie.Need-record-for-requires
-record-for-requires c κs = in_place _ _ _ _ _ _ _ c.before.before.before.decide-link.ensures _ c.before.decided2.given.1
-
-returns : tie.Need-returns
-returns c = search refuses
-
-returns-2 : tie.Need-returns-2
-returns-2 c = movable _ _ _ _ _ _ _ c.before.before.before.before.decide-link.ensures _ c.before.before.decided2.given.1 _ c.record-for.ensures
-
-pub decide-move-spec : {M : Type 1} → statement M
-decide-move-spec =
-    tie.close
-    (tie.spec
-    decide-link-requires
-    enum-known-decided
-    enum-known-decided-2
-    record-for-requires
-    returns
-    returns-2)
+pub returns-in-Of : goal.returns-in-Of
+returns-in-Of c = movable _ _ _ _ _ _ _ c.decide_link-decided.ensures _ c.in-Of.is _ c.record_for-i.ensures

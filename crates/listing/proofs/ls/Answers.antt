@@ -2,7 +2,6 @@
 use Prim.Native.Nat.{ℕ, ◌≤◌}
 use mathlib.Core.Path.{◌≡◌, refl, sym, ap, subst, ◌∙◌}
 use mathlib.Core.List.{List, [], ◌∷◌}
-use borrow.Author.Rules.{rules}
 use lib.ListN.{length}
 use Rattle.meaning.specs.File.{over}
 use Rattle.meaning.specs.Tables.{tables, put_all}
@@ -15,8 +14,7 @@ use Rattle.listing.specs.Names.{place_names}
 use Rattle.listing.specs.List.{Decided, Fitting, Inside, planned}
 use Rattle.listing.specs.declared.Listing.{Listing}
 use Rattle.listing.specs.declared.Listing.TheVariants.{Of, No}
-use Rattle.listing.proofs.ls.Statement.{statement}
-use Rattle.listing.proofs.ls.Tie as tie
+use Rattle.listing.proofs.ls.Goals as goal
 
 module _ (b br fr cr bytes buffer : List ℕ) (d : Listing) (decided : Decided (tables b br fr cr) bytes (length buffer) d) where
   refuses : (why : Report) → d ≡ No why → Promise (Call.Ls bytes (length buffer)) (tables b br fr cr) buffer (record { answer = refusal 1 why; buffer = buffer; tables = tables b br fr cr })
@@ -40,35 +38,11 @@ module _ (b br fr cr bytes buffer : List ℕ) (d : Listing) (decided : Decided (
         (kept_done (Call.Ls bytes (length buffer)) (tables b br fr cr) buffer (names ∷ []) (place_names b br f.0 count) []
         (ap (planned (tables b br fr cr)) (sym e) ∙ decided.means) (tables b br fr cr) refl)
 
-decide-ls-requires : tie.Need-decide-ls-requires
-decide-ls-requires c κs = search rules
+pub lay_names-requires : goal.lay_names-requires
+lay_names-requires c = record { lies = search lies; names_fit = search room }
 
-enum-known-decided : tie.Need-enum-known-decided
-enum-known-decided c = search rules
+pub returns-in-No : goal.returns-in-No
+returns-in-No c = search refuses
 
-enum-known-decided-2 : tie.Need-enum-known-decided-2
-enum-known-decided-2 c = search rules
-
-lay-names-requires : tie.Need-lay-names-requires
-lay-names-requires c κs = (search lies, search room)
-
-returns : tie.Need-returns
-returns c = search refuses
-
-same_length : tie.Need-same-length
-same_length c = search rules
-
-returns-2 : tie.Need-returns-2
-returns-2 c = search lists
-
-pub ls-spec : {M : Type 1} → statement M
-ls-spec =
-    tie.close
-    (tie.spec
-    decide-ls-requires
-    enum-known-decided
-    enum-known-decided-2
-    lay-names-requires
-    returns
-    same_length
-    returns-2)
+pub returns-in-Of : goal.returns-in-Of
+returns-in-Of c = search lists

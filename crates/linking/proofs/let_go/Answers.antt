@@ -3,14 +3,13 @@ use Prim.Native.Nat.{ℕ}
 use mathlib.Core.Path.{◌≡◌}
 use mathlib.Core.List.{List}
 use mathlib.Core.Bool.{Bool, true, false, not}
-use borrow.Author.Rules.{rules}
 use borrow.Author.Tests.{not-true, not-false}
 use Rattle.meaning.specs.Store.{file}
 use Rattle.meaning.specs.Tables.{tables, put, put_all}
 use Rattle.files.specs.Files.{Clearable, cleared}
 use Rattle.linking.specs.Act.{freed, MayGo}
-use Rattle.linking.proofs.let_go.Statement.{statement}
-use Rattle.linking.proofs.let_go.Tie as tie
+use mathlib.Core.Path.{ap}
+use Rattle.linking.proofs.let_go.Goals as goal
 
 module _ (br fr : List ℕ) (t : Bool) (g : ℕ) where
   stays : not t ≡ true → (blocks channels : List ℕ) → tables blocks br fr channels ≡ put_all (tables blocks br fr channels) (freed t g)
@@ -26,24 +25,13 @@ module _ (br fr : List ℕ) (t : Bool) (g : ℕ) where
   unfolding freed put_all
   clears_so e br' fr' clears blocks channels = rw (not-false t e) (clears blocks channels)
 
-returns : tie.Need-returns
-returns c = stays _ _ _ _ c.if1.true
+pub returns-then-not-goes : goal.returns-then-not-goes
+returns-then-not-goes c = stays _ _ _ _ (ap not c.if-not-goes.true)
 
-clear-file-requires : tie.Need-clear-file-requires
-clear-file-requires c κs =
-    let goes = c.before.before in
-    gone _ _ _ _ goes.before.before.before.requires goes.if1.false
+pub clear_file-requires : goal.clear_file-requires
+clear_file-requires c =
+    gone _ _ _ _ c.requires (ap not c.if-not-goes.false)
 
-same_length : tie.Need-same-length
-same_length c = search rules
-
-same-length-2 : tie.Need-same-length-2
-same-length-2 c = search rules
-
-returns-2 : tie.Need-returns-2
-returns-2 c =
-    let clears = c.before.before.before.before in
-    clears_so _ _ _ _ clears.before.before.before.if1.false _ _ clears.clear-file.ensures
-
-pub let-go-spec : {M : Type 1} → statement M
-let-go-spec = tie.close (tie.spec returns clear-file-requires same_length same-length-2 returns-2)
+pub returns : goal.returns
+returns c =
+    clears_so _ _ _ _ (ap not c.if-not-goes.false) _ _ c.clear_file.ensures
