@@ -4,7 +4,6 @@ use mathlib.Core.Path.{◌≡◌, refl, sym, ap, ◌∙◌}
 use mathlib.Core.Logic.{◌≢◌}
 use mathlib.Core.List.{List, [], ◌∷◌}
 use mathlib.Core.Bool.{Bool, true, false, not, ◌||◌}
-use borrow.Author.Rules.{rules}
 use borrow.Author.Tests.{eq-eqb, ne_eqb, not-true, not-false}
 use lib.Dec.{ltb, eqb}
 use Rattle.meaning.specs.Name.{name_count, is_empty}
@@ -32,8 +31,7 @@ use Rattle.listing.specs.Listed.{listed_lies, listed_count}
 use Rattle.folders.specs.Remove.{Removed}
 use Rattle.folders.specs.RemoveLaws.{no_names_empty, names_not_empty, deep, in_directory_lem, planned_is, can}
 use Rattle.folders.specs.declared.Removing.TheVariants.{Of, No}
-use Rattle.folders.proofs.decide_rmdir.Statement.{statement}
-use Rattle.folders.proofs.decide_rmdir.Tie as tie
+use Rattle.folders.proofs.decide_rmdir.Goals as goal
 
 abbrev rest : Tables → List (List ℕ) → Result
 rest t name =
@@ -155,73 +153,36 @@ module _ (b br fr cr bytes : List ℕ) (h : Judged) (on : OnName (tables b br fr
           removes_so none i r =
               removes t bytes k x at some v seen (not-false v n) not-one u holds free count counted names has none i (found_record b br fr cr bytes k x at i r)
 
-judge-name-requires : tie.Need-judge-name-requires
-judge-name-requires c κs = search rules
+pub locate-at-requires : goal.locate-at-requires
+locate-at-requires c = record { shelves = search located_shelves; k_counted = search located_counted }
 
-enum-known-judged : tie.Need-enum-known-judged
-enum-known-judged c = search rules
+pub returns-then-f-eq0 : goal.returns-then-f-eq0
+returns-then-f-eq0 c = search missing_so
 
-enum-known-judged-2 : tie.Need-enum-known-judged-2
-enum-known-judged-2 c = search rules
+pub returns-then-not-is_directory : goal.returns-then-not-is_directory
+returns-then-not-is_directory c = search plain_so
 
-locate-requires : tie.Need-locate-requires
-locate-requires c κs = (search located_shelves, search located_counted)
+pub returns-then-f-eq1 : goal.returns-then-f-eq1
+returns-then-f-eq1 c = search root_so
 
-returns : tie.Need-returns
-returns c = search missing_so
+pub returns-then-is_held : goal.returns-then-is_held
+returns-then-is_held c = search held_so
 
-is-directory-requires : tie.Need-is-directory-requires
-is-directory-requires c κs = search rules
+pub record_count-count-requires : goal.record_count-count-requires
+record_count-count-requires c =
+    sym c.is_directory.ensures ∙ not-false _ (ap not c.if-not-is_directory.false)
 
-returns-2 : tie.Need-returns-2
-returns-2 c = search plain_so
+pub count_names-requires : goal.count_names-requires
+count_names-requires c = search lies_so
 
-returns-3 : tie.Need-returns-3
-returns-3 c = search root_so
+pub returns-then-count_names-ne0 : goal.returns-then-count_names-ne0
+returns-then-count_names-ne0 c = search full_so
 
-is-held-requires : tie.Need-is-held-requires
-is-held-requires c κs = search rules
+pub record_for-i-requires : goal.record_for-i-requires
+record_for-i-requires c = search in_place
 
-returns-4 : tie.Need-returns-4
-returns-4 c = search held_so
+pub returns-in-Refused : goal.returns-in-Refused
+returns-in-Refused c = search refusal
 
-record-count-requires : tie.Need-record-count-requires
-record-count-requires c κs =
-    let plain = c.before.before.before.before in
-    sym plain.before.is_directory_lem.ensures ∙ not-false _ plain.if2.false
-
-count-names-requires : tie.Need-count-names-requires
-count-names-requires c κs = search lies_so
-
-returns-5 : tie.Need-returns-5
-returns-5 c = search full_so
-
-record-for-requires : tie.Need-record-for-requires
-record-for-requires c κs = search in_place
-
-returns-6 : tie.Need-returns-6
-returns-6 c = search refusal
-
-returns-7 : tie.Need-returns-7
-returns-7 c = search removes_so
-
-pub decide-rmdir-spec : {M : Type 1} → statement M
-decide-rmdir-spec =
-    tie.close
-    (tie.spec
-    judge-name-requires
-    enum-known-judged
-    enum-known-judged-2
-    locate-requires
-    returns
-    is-directory-requires
-    returns-2
-    returns-3
-    is-held-requires
-    returns-4
-    record-count-requires
-    count-names-requires
-    returns-5
-    record-for-requires
-    returns-6
-    returns-7)
+pub returns-else-count_names-ne0 : goal.returns-else-count_names-ne0
+returns-else-count_names-ne0 c = search removes_so

@@ -4,7 +4,6 @@ use mathlib.Core.Path.{◌≡◌, ◌∙◌}
 use mathlib.Core.List.{List}
 use mathlib.Core.Bool.{false}
 use native.Mathlib.Omega.{arith}
-use borrow.Author.Rules.{rules}
 use Rattle.meaning.specs.Tables.{Tables, tables, store_of, file_count, file_length, depth_at}
 use Rattle.meaning.specs.Result.{nowhere}
 use Rattle.meaning.specs.declared.Report.{Report}
@@ -28,8 +27,7 @@ use Rattle.placing.specs.NewName.{deep, few-records}
 use Rattle.folders.specs.MakeLaws.{its_depth, shallow}
 use Rattle.folders.specs.MakeCases.{no_file_lem, no_fit, makes}
 use Rattle.folders.specs.declared.Making.TheVariants.{Of, No}
-use Rattle.folders.proofs.decide_new.Statement.{statement}
-use Rattle.folders.proofs.decide_new.Tie as tie
+use Rattle.folders.proofs.decide_new.Goals as goal
 
 module _ (b br fr cr bytes : List ℕ) (x : Located) (new : NewName b br fr cr bytes x) where
   abbrev t : Tables
@@ -75,60 +73,29 @@ module _ (b br fr cr bytes : List ℕ) (x : Located) (new : NewName b br fr cr b
       makes_so =
           makes t bytes new.k x at new.few new.none new.is_directory_lem z free f some i (found_record b br fr cr bytes new.k x at i recorded) fit fits
 
-find-file-requires : tie.Need-find-file-requires
-find-file-requires c κs = search few-files
+pub find_file-requires : goal.find_file-requires
+find_file-requires c = search few-files
 
-enum-known-new : tie.Need-enum-known-new
-enum-known-new c = search rules
+pub returns-in_default : goal.returns-in_default
+returns-in_default c = search no_file_so
 
-enum_told : tie.Need-enum-told
-enum_told c = search rules
+pub record_for-i-requires : goal.record_for-i-requires
+record_for-i-requires c = search in_place
 
-returns : tie.Need-returns
-returns c = search no_file_so
+pub file_record-depth-requires : goal.file_record-depth-requires
+file_record-depth-requires c = directory_there _ _ c.requires.is_directory_lem
 
-record-for-requires : tie.Need-record-for-requires
-record-for-requires c κs = search in_place
+pub record_fits-fit-requires : goal.record_fits-fit-requires
+record_fits-fit-requires c =
+    record { d_is_directory = c.requires.is_directory_lem; length_in_bounds = few_so _ _ _ _ _ _ c.requires _ c.record_for-i.ensures }
 
-file-record-requires : tie.Need-file-record-requires
-file-record-requires c κs = directory_there _ _ c.before.before.before.before.before.before.before.before.before.before.before.requires.is_directory_lem
-
-record-fits-requires : tie.Need-record-fits-requires
-record-fits-requires c κs =
-    let start = c.before.before.before.before.before.before.before.before.before.before.before.before in
-    (start.requires.is_directory_lem, few_so _ _ _ _ _ _ start.requires _ c.before.record-for.ensures)
-
-enum-known-fit : tie.Need-enum-known-fit
-enum-known-fit c = search rules
-
-enum-told-2 : tie.Need-enum-told-2
-enum-told-2 c = search rules
-
-add-t17 : tie.Need-overflow-add-t17
-add-t17 c =
-    let read = c.before.before.before in
-    let few = depth-few _ _ _ _ _ _ read.before.before.before.before.before.before.before.before.before.before.before.before.requires _ read.file-record.ensures.depth in
+pub overflow_add-result : goal.overflow_add-result
+overflow_add-result c =
+    let few = depth-few _ _ _ _ _ _ c.requires _ c.file_record-depth.ensures.depth in
     omega arith
 
-returns-2 : tie.Need-returns-2
-returns-2 c = search no_fit_so
+pub returns-in-No : goal.returns-in-No
+returns-in-No c = search no_fit_so
 
-returns-3 : tie.Need-returns-3
-returns-3 c = search makes_so
-
-pub decide-new-spec : {M : Type 1} → statement M
-decide-new-spec =
-    tie.close
-    (tie.spec
-    find-file-requires
-    enum-known-new
-    enum_told
-    returns
-    record-for-requires
-    file-record-requires
-    record-fits-requires
-    enum-known-fit
-    enum-told-2
-    add-t17
-    returns-2
-    returns-3)
+pub returns-in-Fits : goal.returns-in-Fits
+returns-in-Fits c = search makes_so

@@ -2,7 +2,6 @@
 use Prim.Native.Nat.{ℕ, ◌<◌}
 use mathlib.Core.Path.{◌≡◌, refl, sym, ap, subst, ◌∙◌}
 use mathlib.Core.List.{List, [], ◌∷◌}
-use borrow.Author.Rules.{rules}
 use Rattle.meaning.specs.Name.{blank_record}
 use Rattle.meaning.specs.Store.{file, no_file}
 use Rattle.meaning.specs.NameCalls.{rewritten}
@@ -20,8 +19,7 @@ use Rattle.folders.specs.Acts.{Able, then_clearable, both_made}
 use Rattle.folders.specs.Remove.{Removed, Inside, planned}
 use Rattle.folders.specs.declared.Removing.{Removing}
 use Rattle.folders.specs.declared.Removing.TheVariants.{Of, No}
-use Rattle.folders.proofs.rmdir.Statement.{statement}
-use Rattle.folders.proofs.rmdir.Tie as tie
+use Rattle.folders.proofs.rmdir.Goals as goal
 
 -- the promise, for an answer and the tables that are left
 abbrev Kept : Tables → List ℕ → Answer → Tables → Type 0
@@ -56,68 +54,16 @@ module _ (b br fr cr bytes : List ℕ) (d : Removing) (decided : Removed (tables
           kept_done (Call.Rmdir bytes) t [] [] [] (file p.0 (rewritten (store_of t) p.0 i blank_record) ∷ file f.0 no_file ∷ [])
           (ap (planned t) (sym e) ∙ decided.means) (tables b' br'' fr'' cr) (both_made b br fr cr p.0 i blank_record f.0 0 0 b' br' fr' took br'' fr'' clears)
 
-decide-rmdir-requires : tie.Need-decide-rmdir-requires
-decide-rmdir-requires c κs = search rules
+pub take_name-requires : goal.take_name-requires
+take_name-requires c = record { i_in_bounds = search small; rewritable = search rewritable }
 
-enum-known-decided : tie.Need-enum-known-decided
-enum-known-decided c = search rules
+pub clear_file-requires : goal.clear_file-requires
+clear_file-requires c =
+    search (clearable _ _ _ _ _ _ c.decide_rmdir-decided.ensures _ _ _ c.in-Of.is _ _ _ c.take_name.ensures)
 
-enum-known-decided-2 : tie.Need-enum-known-decided-2
-enum-known-decided-2 c = search rules
+pub returns-in-No : goal.returns-in-No
+returns-in-No c = search refuses
 
-take-name-requires : tie.Need-take-name-requires
-take-name-requires c κs = (search small, search rewritable)
-
-clear-file-requires : tie.Need-clear-file-requires
-clear-file-requires c κs =
-    let took = c.before.before.before.before.before.before.before.before in
-    let told = took.before.before.before.before in
-    let decided = told.before.before.before in
-    search (clearable _ _ _ _ _ _ decided.decide-rmdir.ensures _ _ _ told.before.decided2.given.1 _ _ _ took.take-name.ensures)
-
-same_length : tie.Need-same-length
-same_length c = search rules
-
-same-length-2 : tie.Need-same-length-2
-same-length-2 c = search rules
-
-same-length-3 : tie.Need-same-length-3
-same-length-3 c = search rules
-
-returns : tie.Need-returns
-returns c = search refuses
-
-same-length-4 : tie.Need-same-length-4
-same-length-4 c = search rules
-
-same-length-5 : tie.Need-same-length-5
-same-length-5 c = search rules
-
-same-length-6 : tie.Need-same-length-6
-same-length-6 c = search rules
-
-returns-2 : tie.Need-returns-2
-returns-2 c =
-    let cleared-so = c.before.before.before.before in
-    let took = cleared-so.before.before.before.before.before.before.before.before.before in
-    let told = took.before.before.before.before in
-    let decided = told.before.before.before in
-    search (removed _ _ _ _ _ _ decided.decide-rmdir.ensures _ _ _ told.before.decided2.given.1 _ _ _ took.take-name.ensures)
-
-pub rmdir-spec : {M : Type 1} → statement M
-rmdir-spec =
-    tie.close
-    (tie.spec
-    decide-rmdir-requires
-    enum-known-decided
-    enum-known-decided-2
-    take-name-requires
-    clear-file-requires
-    same_length
-    same-length-2
-    same-length-3
-    returns
-    same-length-4
-    same-length-5
-    same-length-6
-    returns-2)
+pub returns-in-Of : goal.returns-in-Of
+returns-in-Of c =
+    search (removed _ _ _ _ _ _ c.decide_rmdir-decided.ensures _ _ _ c.in-Of.is _ _ _ c.take_name.ensures)

@@ -3,7 +3,6 @@ use Prim.Native.Nat.{ℕ, ◌≤◌, ◌<◌}
 use mathlib.Core.Path.{◌≡◌, refl, sym, ap, subst, ◌∙◌}
 use mathlib.Core.List.{List, [], ◌∷◌}
 use mathlib.Core.Bool.{true}
-use borrow.Author.Rules.{rules}
 use lib.ListN.{length}
 use Rattle.meaning.specs.Name.{is_syllable}
 use Rattle.meaning.specs.Store.{file, directory}
@@ -23,8 +22,7 @@ use Rattle.folders.specs.Acts.{then_clearable, both_made}
 use Rattle.folders.specs.Make.{Made, Names, Inside, planned}
 use Rattle.folders.specs.declared.Making.{Making}
 use Rattle.folders.specs.declared.Making.TheVariants.{Of, No}
-use Rattle.folders.proofs.mkdir.Statement.{statement}
-use Rattle.folders.proofs.mkdir.Tie as tie
+use Rattle.folders.proofs.mkdir.Goals as goal
 
 -- the promise, for an answer and the tables that are left
 abbrev Kept : Tables → List ℕ → Answer → Tables → Type 0
@@ -60,71 +58,17 @@ module _ (b br fr cr bytes : List ℕ) (d : Making) (decided : Made (tables b br
           (ap (planned t bytes) (sym e) ∙ decided.means) (tables b' br'' fr'' cr)
           (both_made b br fr cr p.0 i (record_of f.0 bytes) f.0 2 depth b' br' fr' gave br'' fr'' clears)
 
-decide-mkdir-requires : tie.Need-decide-mkdir-requires
-decide-mkdir-requires c κs = search rules
+pub give_name-requires : goal.give_name-requires
+give_name-requires c =
+    record { record_fits = nameable _ _ _ _ _ _ c.decide_mkdir-decided.ensures _ _ _ _ c.in-Of.is; rewritable = rewritable _ _ _ _ _ _ c.decide_mkdir-decided.ensures _ _ _ _ c.in-Of.is }
 
-enum-known-decided : tie.Need-enum-known-decided
-enum-known-decided c = search rules
+pub clear_file-requires : goal.clear_file-requires
+clear_file-requires c =
+    search (clearable _ _ _ _ _ _ c.decide_mkdir-decided.ensures _ _ _ _ c.in-Of.is _ _ _ c.give_name.ensures)
 
-enum-known-decided-2 : tie.Need-enum-known-decided-2
-enum-known-decided-2 c = search rules
+pub returns-in-No : goal.returns-in-No
+returns-in-No c = search refuses
 
-give-name-requires : tie.Need-give-name-requires
-give-name-requires c κs =
-    let told = c.before.before.before in
-    let decided = told.before.before.before in
-    (nameable _ _ _ _ _ _ decided.decide-mkdir.ensures _ _ _ _ told.before.decided2.given.1, rewritable _ _ _ _ _ _ decided.decide-mkdir.ensures _ _ _ _ told.before.decided2.given.1)
-
-clear-file-requires : tie.Need-clear-file-requires
-clear-file-requires c κs =
-    let gave = c.before.before.before.before.before.before.before.before in
-    let told = gave.before.before.before.before in
-    let decided = told.before.before.before in
-    search (clearable _ _ _ _ _ _ decided.decide-mkdir.ensures _ _ _ _ told.before.decided2.given.1 _ _ _ gave.give-name.ensures)
-
-same_length : tie.Need-same-length
-same_length c = search rules
-
-same-length-2 : tie.Need-same-length-2
-same-length-2 c = search rules
-
-same-length-3 : tie.Need-same-length-3
-same-length-3 c = search rules
-
-returns : tie.Need-returns
-returns c = search refuses
-
-same-length-4 : tie.Need-same-length-4
-same-length-4 c = search rules
-
-same-length-5 : tie.Need-same-length-5
-same-length-5 c = search rules
-
-same-length-6 : tie.Need-same-length-6
-same-length-6 c = search rules
-
-returns-2 : tie.Need-returns-2
-returns-2 c =
-    let cleared-so = c.before.before.before.before in
-    let gave = cleared-so.before.before.before.before.before.before.before.before.before in
-    let told = gave.before.before.before.before in
-    let decided = told.before.before.before in
-    search (made _ _ _ _ _ _ decided.decide-mkdir.ensures _ _ _ _ told.before.decided2.given.1 _ _ _ gave.give-name.ensures)
-
-pub mkdir-spec : {M : Type 1} → statement M
-mkdir-spec =
-    tie.close
-    (tie.spec
-    decide-mkdir-requires
-    enum-known-decided
-    enum-known-decided-2
-    give-name-requires
-    clear-file-requires
-    same_length
-    same-length-2
-    same-length-3
-    returns
-    same-length-4
-    same-length-5
-    same-length-6
-    returns-2)
+pub returns-in-Of : goal.returns-in-Of
+returns-in-Of c =
+    search (made _ _ _ _ _ _ c.decide_mkdir-decided.ensures _ _ _ _ c.in-Of.is _ _ _ c.give_name.ensures)

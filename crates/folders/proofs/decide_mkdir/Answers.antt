@@ -4,7 +4,6 @@ use mathlib.Core.Path.{◌≡◌, sym, ◌∙◌}
 use mathlib.Core.Logic.{◌≢◌}
 use mathlib.Core.List.{List}
 use mathlib.Core.Bool.{Bool, true, false, not}
-use borrow.Author.Rules.{rules}
 use borrow.Author.Tests.{not-true, not-false}
 use Rattle.meaning.specs.Store.{is_directory}
 use Rattle.meaning.specs.Tables.{Tables, tables}
@@ -18,10 +17,9 @@ use Rattle.naming.specs.declared.Judged.{Judged}
 use Rattle.naming.specs.declared.Judged.TheVariants.{Syllables}
 use Rattle.naming.specs.declared.Located.{Located}
 use Rattle.folders.specs.Make.{NewName, Made}
-use Rattle.folders.specs.MakeCases.{refused_so, too_deep, in_use, no_directory}
+use Rattle.folders.specs.MakeCases.{refused_so, too_deep, is_in_use, no_directory}
 use Rattle.folders.specs.declared.Making.TheVariants.{No}
-use Rattle.folders.proofs.decide_mkdir.Statement.{statement}
-use Rattle.folders.proofs.decide_mkdir.Tie as tie
+use Rattle.folders.proofs.decide_mkdir.Goals as goal
 
 module _ (b br fr cr bytes : List ℕ) (h : Judged) (on : OnName (tables b br fr cr) bytes h) (k : ℕ) (e : h ≡ Syllables k) where
   abbrev t : Tables
@@ -35,7 +33,7 @@ module _ (b br fr cr bytes : List ℕ) (h : Judged) (on : OnName (tables b br fr
     at = located_at b br fr cr bytes h on k e x l
 
     in_use_so : x.file.0 ≢ 0 → Made t bytes (No NameInUse)
-    in_use_so = in_use t bytes k x at few
+    in_use_so = is_in_use t bytes k x at few
 
     module _ (none : x.file.0 ≡ 0) (v : Bool) (seen : v ≡ is_directory (files_store fr) x.parent.0) where
       nowhere_so : not v ≡ true → Made t bytes (No NoSuchName)
@@ -45,51 +43,20 @@ module _ (b br fr cr bytes : List ℕ) (h : Judged) (on : OnName (tables b br fr
       new_so n =
           record { k = k; few = few; spelled = spelled t bytes h on k e; located = l; none = none; is_directory_lem = sym seen ∙ not-false v n }
 
-judge-name-requires : tie.Need-judge-name-requires
-judge-name-requires c κs = search rules
+pub returns-then-k-eq-MOST_SYLLABLES : goal.returns-then-k-eq-MOST_SYLLABLES
+returns-then-k-eq-MOST_SYLLABLES c = search deep_so
 
-enum-known-judged : tie.Need-enum-known-judged
-enum-known-judged c = search rules
+pub locate-at-requires : goal.locate-at-requires
+locate-at-requires c = record { shelves = search located_shelves; k_counted = search located_counted }
 
-enum-known-judged-2 : tie.Need-enum-known-judged-2
-enum-known-judged-2 c = search rules
+pub returns-then-f-ne0 : goal.returns-then-f-ne0
+returns-then-f-ne0 c = search in_use_so
 
-returns : tie.Need-returns
-returns c = search deep_so
+pub returns-then-not-is_directory : goal.returns-then-not-is_directory
+returns-then-not-is_directory c = search nowhere_so
 
-locate-requires : tie.Need-locate-requires
-locate-requires c κs = (search located_shelves, search located_counted)
+pub decide_new-requires : goal.decide_new-requires
+decide_new-requires c = search new_so
 
-returns-2 : tie.Need-returns-2
-returns-2 c = search in_use_so
-
-is-directory-requires : tie.Need-is-directory-requires
-is-directory-requires c κs = search rules
-
-returns-3 : tie.Need-returns-3
-returns-3 c = search nowhere_so
-
-decide-new-requires : tie.Need-decide-new-requires
-decide-new-requires c κs = search new_so
-
-returns-4 : tie.Need-returns-4
-returns-4 c = search refused_so
-
-returns-5 : tie.Need-returns-5
-returns-5 c = search rules
-
-pub decide-mkdir-spec : {M : Type 1} → statement M
-decide-mkdir-spec =
-    tie.close
-    (tie.spec
-    judge-name-requires
-    enum-known-judged
-    enum-known-judged-2
-    returns
-    locate-requires
-    returns-2
-    is-directory-requires
-    returns-3
-    decide-new-requires
-    returns-4
-    returns-5)
+pub returns-in-Refused : goal.returns-in-Refused
+returns-in-Refused c = search refused_so
