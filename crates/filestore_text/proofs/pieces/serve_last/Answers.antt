@@ -15,9 +15,7 @@ use Rattle.text.specs.declared.lines.Pending.{Pending}
 use Rattle.serving.specs.Serves.{ServesLine}
 use Rattle.filestore_text.specs.Parts.{ServesLast}
 use Rattle.filestore_text.specs.PartLaws.{no_lines, no_output, one_line, one_output}
-use borrow.Author.Rules.{rules}
-use Rattle.filestore_text.proofs.pieces.serve_last.Statement.{statement}
-use Rattle.filestore_text.proofs.pieces.serve_last.Tie as tie
+use Rattle.filestore_text.proofs.pieces.serve_last.Goals as goal
 
 module _ (p : Pending) (has : Bool) (told : (bytes b : List ℕ) → longest_line ≤ length b → Pends bytes p b → unended bytes ≡ pick has (bytes ∷ []) [])
     (buffer : List ℕ) (long : longest_line ≤ length buffer) (t : Tables) where
@@ -39,43 +37,8 @@ module _ (p : Pending) (has : Bool) (told : (bytes b : List ℕ) → longest_lin
         prints = λ bytes h. rw (one bytes h, one_output bytes t) (laid_up_to _ _ _ _ _ (s.serves bytes h).lays);
       }
 
-has-line-requires : tie.Need-has-line-requires
-has-line-requires c κs = search rules
+pub returns-then-has : goal.returns-then-has
+returns-then-has c = search last_line
 
-serve-line-requires : tie.Need-serve-line-requires
-serve-line-requires c κs = search rules
-
-same_length : tie.Need-same-length
-same_length c = search rules
-
-same-length-2 : tie.Need-same-length-2
-same-length-2 c = search rules
-
-same-length-3 : tie.Need-same-length-3
-same-length-3 c = search rules
-
-same-length-4 : tie.Need-same-length-4
-same-length-4 c = search rules
-
-same-length-5 : tie.Need-same-length-5
-same-length-5 c = search rules
-
-returns : tie.Need-returns
-returns c = search last_line
-
-returns-2 : tie.Need-returns-2
-returns-2 c = search no_line
-
-pub serve-last-spec : {M : Type 1} → statement M
-serve-last-spec =
-    tie.close
-    (tie.spec
-    has-line-requires
-    serve-line-requires
-    same_length
-    same-length-2
-    same-length-3
-    same-length-4
-    same-length-5
-    returns
-    returns-2)
+pub returns : goal.returns
+returns c = search no_line

@@ -11,9 +11,7 @@ use Rattle.text.specs.declared.lines.Pending.{Pending}
 use Rattle.serving.specs.Serves.{ServesLine, line_room}
 use Rattle.filestore_text.specs.Parts.{Steps}
 use Rattle.filestore_text.specs.PartLaws.{part-open, part_line}
-use borrow.Author.Rules.{rules}
-use Rattle.filestore_text.proofs.pieces.serve_next.Statement.{statement}
-use Rattle.filestore_text.proofs.pieces.serve_next.Tie as tie
+use Rattle.filestore_text.proofs.pieces.serve_next.Goals as goal
 
 module _ (start : Pending) (starts : (b : List ℕ) → Pends [] start b) (buffer : List ℕ) (p : Pending) (piece : List ℕ) (from : ℕ) (after : List ℕ)
     (line : Pending) (end : ℕ) (complete : Bool) (gathers : Gathers buffer p piece from after (record { line = line; at = end; complete = complete })) where
@@ -42,59 +40,9 @@ module _ (buffer : List ℕ) (p : Pending) (piece : List ℕ) (from : ℕ) (afte
         serves = part-open p buffer piece from after _ gathers t out at e;
       }
 
-gather-requires : tie.Need-gather-requires
-gather-requires c κs = search rules
+pub returns-then-complete : goal.returns-then-complete
+returns-then-complete c =
+    line_ends c.fresh-line.result c.fresh-line.ensures _ _ _ _ _ _ _ _ c.gather-gathered.ensures c.if-complete.true _ _ _ _ _ _ c.serve_line-at.ensures
 
-serve-line-requires : tie.Need-serve-line-requires
-serve-line-requires c κs = search rules
-
-fresh-requires : tie.Need-fresh-requires
-fresh-requires c κs = search rules
-
-same_length : tie.Need-same-length
-same_length c = search rules
-
-same-length-2 : tie.Need-same-length-2
-same-length-2 c = search rules
-
-same-length-3 : tie.Need-same-length-3
-same-length-3 c = search rules
-
-same-length-4 : tie.Need-same-length-4
-same-length-4 c = search rules
-
-same-length-5 : tie.Need-same-length-5
-same-length-5 c = search rules
-
-same-length-6 : tie.Need-same-length-6
-same-length-6 c = search rules
-
-returns : tie.Need-returns
-returns c =
-    let served = c.before.before.before.before.before.before.before.before.before.before.before in
-    let taken = served.before.before.before.before.before.before.before in
-    let gathered = taken.before.before.before.before in
-    line_ends c.fresh.result c.fresh.ensures _ _ _ _ _ _ _ _ gathered.gather.ensures taken.if1.true _ _ _ _ _ _ served.serve-line.ensures
-
-same-length-7 : tie.Need-same-length-7
-same-length-7 c = search rules
-
-returns-2 : tie.Need-returns-2
-returns-2 c = search piece_ends
-
-pub serve-next-spec : {M : Type 1} → statement M
-serve-next-spec =
-    tie.close
-    (tie.spec
-    gather-requires
-    serve-line-requires
-    fresh-requires
-    same_length
-    same-length-2
-    same-length-3
-    same-length-4
-    same-length-5
-    same-length-6
-    returns
-    same-length-7
-    returns-2)
+pub returns : goal.returns
+returns c = search piece_ends
