@@ -1,5 +1,6 @@
 // Calls from standard input, carried out on a store of 4 blocks, 4 files and 2 channels; a line is printed for each.
 #![tactic(auto)]
+
 mod pieces;
 
 ghost use Rattle.std.specs.Prelude.{◌≤◌, ◌<◌, ◌≡◌, length};
@@ -10,20 +11,20 @@ ghost use Rattle.text.specs.Program.{at_start};
 ghost use Rattle.serving.specs.Serves.{line_room};
 ghost use Rattle.filestore_text.specs.Parts.{Steps, ServesPiece, ServesRead, ServesLast, ServesInput};
 
-use libc::{STDIN_FILENO, STDOUT_FILENO};
 use pieces::{Step, serve_last, serve_some};
 use rooms::prepare;
+use std::io::{Read, Write};
 use text::lines::{Pending, fresh};
 
 // A step through a piece, and whether what it printed was written.
-#[derive(Drop)]
+#[derive(Clone, Copy)]
 struct Turn {
     step: Step,
     going: bool,
 }
 
 // After a piece: the line so far, how many of the piece's bytes are served, and whether to go on.
-#[derive(Drop)]
+#[derive(Clone, Copy)]
 struct Rest {
     line: Pending,
     from: usize,
@@ -31,7 +32,7 @@ struct Rest {
 }
 
 // After a read: how many bytes it put into the piece buffer, what has become of them, and whether the input has ended.
-#[derive(Drop)]
+#[derive(Clone, Copy)]
 struct Piece {
     read: usize,
     rest: Rest,
@@ -40,7 +41,8 @@ struct Piece {
 
 // A step through the piece. What it prints, the output's first bytes, is handed to write.
 // No contract can say that write takes it: this one says that it is what the step has to print.
-fn serve_and_write(
+fn serve_and_write<W: Write>(
+    output: &mut W,
     blocks: &mut [u8],
     block_records: &mut [u8],
     file_records: &mut [u8],
@@ -69,12 +71,13 @@ fn serve_and_write(
         out,
     );
     let at = step.at;
-    let going = io::write_all(STDOUT_FILENO, &out[..at]);
+    let going = output.write_all(&out[..at]).is_ok();
     Turn { step, going }
 }
 
 // The lines that end in a piece. All that they print is handed to write, many lines at a time; a write that fails ends it.
-fn serve_piece(
+fn serve_piece<W: Write>(
+    output: &mut W,
     blocks: &mut [u8],
     block_records: &mut [u8],
     file_records: &mut [u8],
@@ -94,6 +97,7 @@ fn serve_piece(
     let mut going = true;
     while going && from < piece.len() {
         let turn = serve_and_write(
+            output,
             blocks,
             block_records,
             file_records,
@@ -113,7 +117,9 @@ fn serve_piece(
 }
 
 // The next piece of the input, read and served. A failed read or write ends the program, and so does the input's end.
-fn serve_next_piece(
+fn serve_next_piece<R: Read, W: Write>(
+    input: &mut R,
+    output: &mut W,
     blocks: &mut [u8],
     block_records: &mut [u8],
     file_records: &mut [u8],
@@ -128,21 +134,20 @@ fn serve_next_piece(
     requires line_room_in_bounds { line_room ≤ length out.old }
     ensures { ServesRead line buffer.old (entered blocks block_records file_records channel_records) piece.new buffer.new (left blocks block_records file_records channel_records) result }
 {
-    let got = libc::read(STDIN_FILENO, piece);
-    if got <= 0 {
+    let (read, ended) = match input.read(piece) {
+        Ok(read) => (read, read == 0),
+        Err(_) => (0, false),
+    };
+    if read == 0 {
         let rest = Rest {
             line,
             from: 0,
             going: false,
         };
-        return Piece {
-            read: 0,
-            rest,
-            ended: got == 0,
-        };
+        return Piece { read, rest, ended };
     }
-    let read = io::count(got, piece);
     let rest = serve_piece(
+        output,
         blocks,
         block_records,
         file_records,
@@ -160,7 +165,8 @@ fn serve_next_piece(
 }
 
 // The line that the input's end ends, if there is one. The answer is how many bytes were handed to write.
-fn serve_end(
+fn serve_end<W: Write>(
+    output: &mut W,
     blocks: &mut [u8],
     block_records: &mut [u8],
     file_records: &mut [u8],
@@ -183,13 +189,15 @@ fn serve_end(
         line,
         out,
     );
-    io::write_all(STDOUT_FILENO, &out[..n]);
+    let _ = output.write_all(&out[..n]);
     n
 }
 
 // All of the input. The answer is whether it has ended; a line that a failed read or write cuts is not served.
 // A proved loop has to end: this one counts down from a number of pieces that no input has.
-fn serve_input(
+fn serve_input<R: Read, W: Write>(
+    input: &mut R,
+    output: &mut W,
     blocks: &mut [u8],
     block_records: &mut [u8],
     file_records: &mut [u8],
@@ -209,6 +217,8 @@ fn serve_input(
     let mut pieces = u64::MAX;
     while going && pieces > 0 {
         let next = serve_next_piece(
+            input,
+            output,
             blocks,
             block_records,
             file_records,
@@ -224,8 +234,10 @@ fn serve_input(
         ended = next.ended;
         pieces -= 1;
     }
-    if ended {
+    let at_end = ended;
+    if at_end {
         serve_end(
+            output,
             blocks,
             block_records,
             file_records,
@@ -244,7 +256,21 @@ fn line_buffer() -> [u8; 1024]
     [0; 1024]
 }
 
-fn main() {
+// A piece of the input: what one read gives at most.
+fn piece_buffer() -> [u8; 4096]
+    ensures { 4096 ≡ length result }
+{
+    [0; 4096]
+}
+
+// What a piece prints is gathered here before it is written.
+fn output_buffer() -> [u8; 65536]
+    ensures { 65536 ≡ length result }
+{
+    [0; 65536]
+}
+
+fn main(rt: HostRuntime) {
     let mut blocks = [0; 2048];
     let mut block_records = [0; 16];
     let mut file_records = [0; 32];
@@ -256,9 +282,13 @@ fn main() {
         &mut channel_records,
     );
     let mut buffer = line_buffer();
-    let mut piece = io::buffer();
-    let mut out = io::large_buffer();
+    let mut piece = piece_buffer();
+    let mut out = output_buffer();
+    let mut input = rt.stdin();
+    let mut output = rt.stdout();
     serve_input(
+        &mut input,
+        &mut output,
         &mut blocks,
         &mut block_records,
         &mut file_records,

@@ -9,7 +9,7 @@ use serving::serve_line;
 use text::lines::{Pending, fresh, gather, has_line};
 
 // The line so far, where the rest of the piece starts, and how many bytes of output wait.
-#[derive(Drop)]
+#[derive(Clone, Copy)]
 pub struct Step {
     pub line: Pending,
     pub from: usize,
@@ -115,7 +115,8 @@ pub fn serve_last(
     requires line_room_in_bounds { line_room ≤ length out.old }
     ensures { ServesLast line buffer.now (entered blocks block_records file_records channel_records) (left blocks block_records file_records channel_records) out.new result }
 {
-    if has_line(line) {
+    let has = has_line(line);
+    if has {
         return serve_line(
             blocks,
             block_records,

@@ -1,5 +1,6 @@
 // A line of text to a call, an answer to a line. Definitions are in specs/.
 #![tactic(auto)]
+
 mod arguments;
 pub mod lines;
 pub mod print;
