@@ -11,26 +11,26 @@ use Rattle.text.specs.declared.Command.{Command}
 use Rattle.text.specs.declared.Command.TheVariants as C
 use Rattle.serving.specs.Kinds.{sorted, Servable}
 
-abbrev Brief : Call → Type 0
-Brief Prepare = Unit
-Brief Room = Unit
-Brief (Create name) = Unit
-Brief (Open name) = Unit
-Brief (Unlink name) = Unit
-Brief (Mkdir name) = Unit
-Brief (Rmdir name) = Unit
-Brief (Link old new) = Unit
-Brief (Move old new) = Unit
-Brief (Ls name size) = Unit
-Brief (Close c) = Unit
-Brief (Fstat c) = Unit
-Brief (Read c count) = count ≤ lent_bytes
-Brief (Write c bytes) = Unit
-Brief (Seek c mode n) = Unit
+abbrev BriefCall : Call → Type 0
+BriefCall Prepare = Unit
+BriefCall Room = Unit
+BriefCall (Create name) = Unit
+BriefCall (Open name) = Unit
+BriefCall (Unlink name) = Unit
+BriefCall (Mkdir name) = Unit
+BriefCall (Rmdir name) = Unit
+BriefCall (Link old new) = Unit
+BriefCall (Move old new) = Unit
+BriefCall (Ls name size) = Unit
+BriefCall (Close c) = Unit
+BriefCall (Fstat c) = Unit
+BriefCall (Read c count) = count ≤ lent_bytes
+BriefCall (Write c bytes) = Unit
+BriefCall (Seek c mode n) = Unit
 
 abbrev pub Brief : Option Call → Type 0
 Brief none = Unit
-Brief (some call) = Brief call
+Brief (some call) = BriefCall call
 
 -- ---- each form of arguments
 
@@ -38,7 +38,7 @@ either : (t : Bool) (a b : Option Call) → Brief a → Brief b → Brief (pick 
 either true a b p q = p
 either false a b p q = q
 
-of_nothing : (call : Call) → Brief call → (rest : Option (List ℕ)) → Brief (nothing call rest)
+of_nothing : (call : Call) → BriefCall call → (rest : Option (List ℕ)) → Brief (nothing call rest)
 unfolding nothing
 of_nothing call h none = h
 of_nothing call h (some rest) = tt
@@ -57,21 +57,21 @@ of_number : (k : ℕ → Option (List ℕ) → Option Call) → ((n : ℕ) (rest
 unfolding a_number
 of_number k h rest = of_word (λ word rest. given (number word) (λ n. k n rest)) (λ word rest. of_given (number word) (λ n. k n rest) (λ n. h n rest)) rest
 
-of_data : (call : List ℕ → Call) → ((bytes : List ℕ) → Brief (call bytes)) → (rest : Option (List ℕ)) → Brief (the_data call rest)
+of_data : (call : List ℕ → Call) → ((bytes : List ℕ) → BriefCall (call bytes)) → (rest : Option (List ℕ)) → Brief (the_data call rest)
 unfolding the_data
 of_data call h none = h []
 of_data call h (some []) = tt
 of_data call h (some (b ∷ bytes)) = h (b ∷ bytes)
 
-of_name : (call : List ℕ → Call) → ((name : List ℕ) → Brief (call name)) → (rest : Option (List ℕ)) → Brief (a_name call rest)
+of_name : (call : List ℕ → Call) → ((name : List ℕ) → BriefCall (call name)) → (rest : Option (List ℕ)) → Brief (a_name call rest)
 unfolding a_name
 of_name call h rest = of_word (λ name. nothing (call name)) (λ name. of_nothing (call name) (h name)) rest
 
-of_names : (call : List ℕ → List ℕ → Call) → ((old new : List ℕ) → Brief (call old new)) → (rest : Option (List ℕ)) → Brief (two_names call rest)
+of_names : (call : List ℕ → List ℕ → Call) → ((old new : List ℕ) → BriefCall (call old new)) → (rest : Option (List ℕ)) → Brief (two_names call rest)
 unfolding two_names
 of_names call h rest = of_word (λ old. a_name (call old)) (λ old. of_name (call old) (h old)) rest
 
-of_last : (call : ℕ → Call) → ((n : ℕ) → Brief (call n)) → (rest : Option (List ℕ)) → Brief (last_number call rest)
+of_last : (call : ℕ → Call) → ((n : ℕ) → BriefCall (call n)) → (rest : Option (List ℕ)) → Brief (last_number call rest)
 unfolding last_number
 of_last call h rest = of_number (λ n. nothing (call n)) (λ n. of_nothing (call n) (h n)) rest
 

@@ -17,9 +17,7 @@ use Rattle.serving.specs.Serves.{Serves, line_room, shown_of}
 use Rattle.serving.specs.ServesLaws.{served-bytes}
 use Rattle.serving.specs.Shown.{Shows, shows}
 use Rattle.serving.specs.Sizes.{ls_sized}
-use borrow.Author.Rules.{rules}
-use Rattle.serving.proofs.on_names.ls_into.Statement.{statement}
-use Rattle.serving.proofs.on_names.ls_into.Tie as tie
+use Rattle.serving.proofs.on_names.ls_into.Goals as goal
 
 module _ (name : List ℕ) (t : Tables) (buffer : List ℕ) (answer : Counted) (buffer' : List ℕ) (t' : Tables)
     (p : Promise (Call.Ls name (length buffer)) t buffer (record { answer = counted answer; buffer = buffer'; tables = t' })) (n : ℕ) (e : n ≡ shown_of 14 answer) where
@@ -39,39 +37,14 @@ module _ (name : List ℕ) (t : Tables) (buffer : List ℕ) (answer : Counted) (
       → Serves (some (Call.Ls name (length buffer))) t out at t' after next
   of_bytes out at after next l = served-bytes (Call.Ls name (length buffer)) t buffer (counted answer) buffer' t' p out at after next (take n buffer') shown.same l
 
-ls-requires : tie.Need-ls-requires
-ls-requires c κs = search rules
+pub slice_bounds-print_counted-end : goal.slice_bounds-print_counted-end
+slice_bounds-print_counted-end c = search shown-within
 
-bytes-listed-requires : tie.Need-bytes-listed-requires
-bytes-listed-requires c κs = search rules
+pub slice_bounds-print_counted-end-2 : goal.slice_bounds-print_counted-end-2
+slice_bounds-print_counted-end-2 c = search shown-count
 
-slice-reshare-prefix-print-counted : tie.Need-slice-reshare-prefix-print-counted
-slice-reshare-prefix-print-counted c = search shown-within
+pub print_counted-requires : goal.print_counted-requires
+print_counted-requires c = search line_fits
 
-slice-aggregate-print-counted : tie.Need-slice-aggregate-print-counted
-slice-aggregate-print-counted c = search shown-count
-
-print-counted-requires : tie.Need-print-counted-requires
-print-counted-requires c κs = search line_fits
-
-same_length : tie.Need-same-length
-same_length c = search rules
-
-same-length-2 : tie.Need-same-length-2
-same-length-2 c = search rules
-
-returns : tie.Need-returns
+pub returns : goal.returns
 returns c = search of_bytes
-
-pub ls-into-spec : {M : Type 1} → statement M
-ls-into-spec =
-    tie.close
-    (tie.spec
-    ls-requires
-    bytes-listed-requires
-    slice-reshare-prefix-print-counted
-    slice-aggregate-print-counted
-    print-counted-requires
-    same_length
-    same-length-2
-    returns)

@@ -11,8 +11,7 @@ use Rattle.meaning.specs.Run.{Call}
 use Rattle.text.specs.Line.{lent_bytes}
 use Rattle.serving.specs.Serves.{Serves}
 use borrow.Author.Rules.{rules}
-use Rattle.serving.proofs.on_channels.serve_read.Statement.{statement}
-use Rattle.serving.proofs.on_channels.serve_read.Tie as tie
+use Rattle.serving.proofs.on_channels.serve_read.Goals as goal
 
 module _ (space : List ℕ) (all : lent_bytes ≡ length space) (count : ℕ) (h : count ≤ lent_bytes) where
   size_is : count ≡ length (take count space)
@@ -24,35 +23,11 @@ module _ (space : List ℕ) (all : lent_bytes ≡ length space) (count : ℕ) (h
   of_size : (c : ℕ) (t t' : Tables) (out : List ℕ) (at : ℕ) (after : List ℕ) (next : ℕ) → Serves (some (Call.Read c (length (take count space)))) t out at t' after next → Serves (some (Call.Read c count)) t out at t' after next
   of_size c t t' out at after next s = rw (← size_is) at s
 
-lent-requires : tie.Need-lent-requires
-lent-requires c κs = search rules
+pub slice_bounds-read_into-end : goal.slice_bounds-read_into-end
+slice_bounds-read_into-end c = search size_is
 
-array-borrow-prefix-space : tie.Need-array-borrow-prefix-space
-array-borrow-prefix-space c = search rules
+pub read_into-requires : goal.read_into-requires
+read_into-requires c = record { buffer_len_bound = search size_fits; line_room_in_bounds = search rules }
 
-slice-aggregate-read-into : tie.Need-slice-aggregate-read-into
-slice-aggregate-read-into c = search size_is
-
-read-into-requires : tie.Need-read-into-requires
-read-into-requires c κs = (search size_fits, search rules)
-
-same_length : tie.Need-same-length
-same_length c = search rules
-
-same-length-2 : tie.Need-same-length-2
-same-length-2 c = search rules
-
-returns : tie.Need-returns
+pub returns : goal.returns
 returns c = search of_size
-
-pub serve-read-spec : {M : Type 1} → statement M
-serve-read-spec =
-    tie.close
-    (tie.spec
-    lent-requires
-    array-borrow-prefix-space
-    slice-aggregate-read-into
-    read-into-requires
-    same_length
-    same-length-2
-    returns)
