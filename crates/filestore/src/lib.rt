@@ -1,4 +1,4 @@
-// The calls for programs in other languages. Each makes its call and tells the answer as four numbers; nothing is decided here.
+// The calls as programs in other languages make them. Each makes its call and tells the answer as four numbers; nothing is decided here.
 // Above each stands what it answers after its report.
 #![tactic(auto)]
 mod answers;
@@ -30,8 +30,7 @@ pub struct Told {
 }
 
 // Nothing.
-#[unsafe(no_mangle)]
-pub extern "C" fn filestore_prepare(
+pub fn filestore_prepare(
     blocks: &[u8],
     block_records: &mut [u8],
     file_records: &mut [u8],
@@ -44,8 +43,7 @@ pub extern "C" fn filestore_prepare(
 }
 
 // The channel.
-#[unsafe(no_mangle)]
-pub extern "C" fn filestore_create(
+pub fn filestore_create(
     blocks: &mut [u8],
     block_records: &mut [u8],
     file_records: &mut [u8],
@@ -59,8 +57,7 @@ pub extern "C" fn filestore_create(
 }
 
 // The channel.
-#[unsafe(no_mangle)]
-pub extern "C" fn filestore_open(
+pub fn filestore_open(
     blocks: &[u8],
     block_records: &[u8],
     file_records: &[u8],
@@ -74,8 +71,7 @@ pub extern "C" fn filestore_open(
 }
 
 // Nothing.
-#[unsafe(no_mangle)]
-pub extern "C" fn filestore_close(
+pub fn filestore_close(
     blocks: &[u8],
     block_records: &mut [u8],
     file_records: &mut [u8],
@@ -95,8 +91,7 @@ pub extern "C" fn filestore_close(
 }
 
 // The count of bytes read.
-#[unsafe(no_mangle)]
-pub extern "C" fn filestore_read(
+pub fn filestore_read(
     blocks: &[u8],
     block_records: &[u8],
     file_records: &[u8],
@@ -118,8 +113,7 @@ pub extern "C" fn filestore_read(
 }
 
 // The count of bytes written.
-#[unsafe(no_mangle)]
-pub extern "C" fn filestore_write(
+pub fn filestore_write(
     blocks: &mut [u8],
     block_records: &mut [u8],
     file_records: &mut [u8],
@@ -141,8 +135,7 @@ pub extern "C" fn filestore_write(
 }
 
 // The new position.
-#[unsafe(no_mangle)]
-pub extern "C" fn filestore_seek(
+pub fn filestore_seek(
     blocks: &[u8],
     block_records: &[u8],
     file_records: &[u8],
@@ -166,8 +159,7 @@ pub extern "C" fn filestore_seek(
 }
 
 // Length, file number, kind.
-#[unsafe(no_mangle)]
-pub extern "C" fn filestore_fstat(
+pub fn filestore_fstat(
     blocks: &[u8],
     block_records: &[u8],
     file_records: &[u8],
@@ -187,8 +179,7 @@ pub extern "C" fn filestore_fstat(
 }
 
 // Nothing.
-#[unsafe(no_mangle)]
-pub extern "C" fn filestore_link(
+pub fn filestore_link(
     blocks: &mut [u8],
     block_records: &mut [u8],
     file_records: &mut [u8],
@@ -210,8 +201,7 @@ pub extern "C" fn filestore_link(
 }
 
 // Nothing.
-#[unsafe(no_mangle)]
-pub extern "C" fn filestore_unlink(
+pub fn filestore_unlink(
     blocks: &mut [u8],
     block_records: &mut [u8],
     file_records: &mut [u8],
@@ -225,8 +215,7 @@ pub extern "C" fn filestore_unlink(
 }
 
 // Nothing.
-#[unsafe(no_mangle)]
-pub extern "C" fn filestore_move(
+pub fn filestore_move(
     blocks: &mut [u8],
     block_records: &mut [u8],
     file_records: &mut [u8],
@@ -248,8 +237,7 @@ pub extern "C" fn filestore_move(
 }
 
 // The count of names.
-#[unsafe(no_mangle)]
-pub extern "C" fn filestore_ls(
+pub fn filestore_ls(
     blocks: &[u8],
     block_records: &[u8],
     file_records: &[u8],
@@ -271,8 +259,7 @@ pub extern "C" fn filestore_ls(
 }
 
 // Nothing.
-#[unsafe(no_mangle)]
-pub extern "C" fn filestore_mkdir(
+pub fn filestore_mkdir(
     blocks: &mut [u8],
     block_records: &mut [u8],
     file_records: &mut [u8],
@@ -286,8 +273,7 @@ pub extern "C" fn filestore_mkdir(
 }
 
 // Nothing.
-#[unsafe(no_mangle)]
-pub extern "C" fn filestore_rmdir(
+pub fn filestore_rmdir(
     blocks: &mut [u8],
     block_records: &mut [u8],
     file_records: &mut [u8],
@@ -301,8 +287,7 @@ pub extern "C" fn filestore_rmdir(
 }
 
 // Free blocks, free file numbers, free channels.
-#[unsafe(no_mangle)]
-pub extern "C" fn filestore_room(
+pub fn filestore_room(
     blocks: &[u8],
     block_records: &[u8],
     file_records: &[u8],

@@ -9,9 +9,7 @@ use Rattle.meaning.specs.declared.Opened.TheVariants.{At, Refused}
 use Rattle.filestore.specs.declared.Told.{Told}
 use Rattle.filestore.specs.Tells.{four, in_four, alone}
 use Rattle.filestore.specs.TellsLaws.{one_told, refusal-told}
-use borrow.Author.Rules.{rules}
-use Rattle.filestore.proofs.answers.tell_opened.Statement.{statement}
-use Rattle.filestore.proofs.answers.tell_opened.Tie as tie
+use Rattle.filestore.proofs.answers.tell_opened.Goals as goal
 
 module _ (answer : Opened) where
   accepted-told : (c : ChannelNo) → answer ≡ At c → four (record { report = 0; first = c.0; second = 0; third = 0 }) ≡ in_four (opened answer)
@@ -20,22 +18,8 @@ module _ (answer : Opened) where
   refused_told : (why : Report) (r : Told) → answer ≡ Refused why → four r ≡ alone why → four r ≡ in_four (opened answer)
   refused_told why r e a = rw e (refusal-told 1 why r (omega arith) a)
 
-enum-known-answer : tie.Need-enum-known-answer
-enum-known-answer c = search rules
+pub returns-in-At : goal.returns-in-At
+returns-in-At c = search accepted-told
 
-enum-known-answer-2 : tie.Need-enum-known-answer-2
-enum-known-answer-2 c = search rules
-
-tell-alone-requires : tie.Need-tell-alone-requires
-tell-alone-requires c κs = search rules
-
-returns : tie.Need-returns
-returns c = search accepted-told
-
-returns-2 : tie.Need-returns-2
-returns-2 c = search refused_told
-
-pub tell-opened-spec : {M : Type 1} → statement M
-tell-opened-spec =
-    tie.close
-    (tie.spec enum-known-answer enum-known-answer-2 tell-alone-requires returns returns-2)
+pub returns-in-Refused : goal.returns-in-Refused
+returns-in-Refused c = search refused_told

@@ -1,0 +1,6 @@
+-- Ok alone, or a refusal: the report with zeros after it.
+use Rattle.filestore.specs.TellsLaws.{report_told}
+use Rattle.filestore.proofs.answers.tell_report.Goals as goal
+
+pub returns : goal.returns
+returns c = search report_told

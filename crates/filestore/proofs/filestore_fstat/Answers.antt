@@ -1,0 +1,6 @@
+-- The call keeps its promise, and its answer is told.
+use Rattle.filestore.specs.TellsLaws.{kept_told}
+use Rattle.filestore.proofs.filestore_fstat.Goals as goal
+
+pub returns : goal.returns
+returns c = search kept_told
