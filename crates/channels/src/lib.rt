@@ -1,5 +1,6 @@
 // Calls on a channel.
 #![tactic(auto)]
+
 ghost use Rattle.std.specs.Prelude.{◌≡◌, ◌+◌, ◌≤◌, ◌<◌, length};
 ghost use Rattle.meaning.specs.Tables.{tables};
 ghost use Rattle.meaning.specs.ChannelCalls.{seek_to};

@@ -1,9 +1,9 @@
 // How many records name a file, and what goes with its last name.
 #![tactic(auto)]
+
 ghost use Rattle.std.specs.Prelude.{◌≡◌};
 ghost use Rattle.meaning.specs.Store.{names};
 ghost use Rattle.meaning.specs.Tables.{tables, store_of};
-
 ghost use Rattle.soundness.specs.Slots.{directories_store};
 ghost use Rattle.counts.specs.OfStore.{OfStore};
 ghost use Rattle.counts.specs.Gone.{gone_with};

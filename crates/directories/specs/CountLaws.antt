@@ -1,5 +1,5 @@
 -- How many records name a file, and how many are not blank, where one record of a directory is written anew or added.
-use Prim.Native.Nat.{ℕ, suc, ◌+◌, ◌-◌, ◌*◌, ◌≤◌, ◌<◌, max}
+use Prim.Native.Nat.{ℕ, suc, ◌+◌, ◌*◌, ◌≤◌, ◌<◌, max}
 use Rattle.std.specs.Prelude.{◌≡◌, ◌≢◌, List, false, length}
 use Rattle.std.proofs.Math.Path.{refl, ap}
 use Rattle.std.proofs.Common.{sym, ◌∙◌, ⊎_elim, arith}

@@ -1,6 +1,6 @@
 -- Records in runs of 32, a block at a time: a search and a count over them, as a loop over blocks meets them.
 use Prim.Native.Nat.{ℕ, ◌+◌, ◌-◌, ◌*◌, ◌≤◌, ◌<◌, min}
-use Rattle.std.specs.Prelude.{◌≡◌, Bool, true, false}
+use Rattle.std.specs.Prelude.{◌≡◌, Bool}
 use Rattle.std.proofs.Common.{sym, ◌∙◌, ⊎_elim, true≢false}
 use native.Mathlib.Omega.{arith}
 use Rattle.records.specs.Rows.{lowest, lowest_from}

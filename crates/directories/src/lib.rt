@@ -1,5 +1,6 @@
 // Directories: finding records in the blocks of a directory. Laws of records are in specs/.
 #![tactic(auto)]
+
 ghost use Rattle.std.specs.Prelude.{◌≡◌, ◌+◌, ◌-◌, ◌*◌, ◌≤◌, ◌<◌, min, length};
 ghost use Rattle.names.specs.Syllables.{part};
 ghost use Rattle.directories.specs.Find.{Lies, named_at, blank_at, run_lowest, place_lowest};

@@ -1,5 +1,6 @@
 // A file as a whole: its bytes read, written and let go. Each change is the definitions' own, every byte of the tables.
 #![tactic(auto)]
+
 ghost use Rattle.std.specs.Prelude.{◌≡◌, ◌-◌, min, max};
 ghost use Rattle.files.specs.Files.{HasFile, Writable, Clearable, Reads, Writes, Clears};
 

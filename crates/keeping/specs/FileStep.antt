@@ -1,6 +1,6 @@
 -- A file without records is written, made or freed: the shape stays, and who is named how often.
 use Prim.Native.Nat.{ℕ, suc, ◌+◌, ◌-◌, ◌≤◌, ◌<◌}
-use Rattle.std.specs.Prelude.{◌≡◌, ◌≢◌, ◌⊎◌, [], Bool, true}
+use Rattle.std.specs.Prelude.{◌≡◌, ◌≢◌, [], Bool, true}
 use Rattle.std.proofs.Math.Path.{refl, ap}
 use Rattle.std.proofs.Common.{sym, ◌∙◌, inl, inr, ⊎_elim, arith}
 use Rattle.std.proofs.Math.Bool.{false}

@@ -14,7 +14,7 @@ use Rattle.meaning.specs.NameCalls.{parent, record_for, rewritten, naming, unnam
 use Rattle.names.specs.RecordLaws.{length-written, read-written}
 use Rattle.directories.specs.EntryLaws.{length_with}
 use Rattle.layout.specs.Fits.{FileFits}
-use Rattle.soundness.specs.Use.{used, directory_used}
+use Rattle.soundness.specs.Use.{directory_used}
 use Rattle.soundness.specs.Well.{Well}
 use Rattle.soundness.specs.WellFacts.{directory-form, root-directory}
 use Rattle.trees.specs.Rewrite.{Rewriting, with_record}

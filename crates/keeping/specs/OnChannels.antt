@@ -1,5 +1,5 @@
 -- The calls on a channel, and open, room and ls: each leaves a well-formed store.
-use Rattle.std.specs.Prelude.{ℕ, ◌+◌, ◌-◌, ◌≤◌, ◌<◌, ◌≡◌, refl, ◌≢◌, ◌⊎◌, List, [], ◌∷◌, true, false, not, ◌||◌}
+use Rattle.std.specs.Prelude.{ℕ, ◌+◌, ◌≤◌, ◌<◌, ◌≡◌, refl, ◌≢◌, List, [], ◌∷◌, true, false, not, ◌||◌}
 use Rattle.std.proofs.Common.{sym, ◌∙◌, ⊎_elim}
 use Rattle.std.proofs.Math.Bool.{true≢false}
 use Rattle.std.proofs.Math.Option.{some}
@@ -12,7 +12,7 @@ use Rattle.records.specs.Tests.{and_left, or_right, same_or_not, not_so}
 use Rattle.meaning.specs.File.{readFILE}
 use Rattle.meaning.specs.FileLaws.{length-read}
 use Rattle.meaning.specs.Name.{syllables}
-use Rattle.meaning.specs.Store.{Store, Channel, file, channel, after_all, channel_to, root, in_use, is_directory, is_open, free_channel, named}
+use Rattle.meaning.specs.Store.{Store, Channel, channel, after_all, channel_to, root, in_use, is_directory, is_open, free_channel, named}
 use Rattle.meaning.specs.Result.{missing, all_open}
 use Rattle.meaning.specs.ChannelCalls.{read, seek, seek_to, fstat, room, last_position}
 use Rattle.meaning.specs.NameCalls.{open', ls}

@@ -9,7 +9,7 @@ use Rattle.records.specs.Tests.{same_or_not}
 use Rattle.meaning.specs.File.{needed}
 use Rattle.meaning.specs.Store.{Store, Change, after, after_all, in_use, free_blocks, blocks_needed}
 use Rattle.meaning.specs.Result.{unless}
-use Rattle.meaning.specs.Tables.{Tables, store_of, block_count, file_count, put_all}
+use Rattle.meaning.specs.Tables.{Tables, store_of, block_count, put_all}
 use Rattle.meaning.specs.Sound.{sound, lengths_agree}
 use Rattle.meaning.specs.Run.{Call, Prepare, Room, Create, Open, Unlink, Mkdir, Rmdir, Link, Move, Ls, Close, Fstat, Read, Write, Seek, meaning, accepts, result_of, changes_of, run}
 use Rattle.layout.specs.Lengths.{Lengths, agree_lengths}

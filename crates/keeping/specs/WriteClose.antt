@@ -10,7 +10,7 @@ use Rattle.meaning.specs.FileLaws.{length-write}
 use Rattle.meaning.specs.Store.{Store, file, channel, after, no_channel, channel_to, ordinary, is_directory, is_open, free_blocks, let_go}
 use Rattle.meaning.specs.ChannelCalls.{close, write}
 use Rattle.meaning.specs.declared.Report.TheVariants.{IsDirectory}
-use Rattle.soundness.specs.Use.{used, directory-kind}
+use Rattle.soundness.specs.Use.{directory-kind}
 use Rattle.soundness.specs.Well.{ChannelForm, Well}
 use Rattle.soundness.specs.WellFacts.{open_channel, held_used}
 use Rattle.keeping.specs.Shape.{shape}

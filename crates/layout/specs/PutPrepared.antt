@@ -13,7 +13,7 @@ use Rattle.records.specs.NumberLaws.{zero_zeros}
 use Rattle.records.specs.RecordLaws.{length-with_record}
 use Rattle.meaning.specs.File.{zero_bytes}
 use Rattle.meaning.specs.Store.{File, prepared, after, root, directory, no_file, no_channel}
-use Rattle.meaning.specs.Tables.{Tables, store_of, file_of, byte_of, channel_of, block_count, file_count, channel_count, owner, place, kind_at, depth_at, length_at, file_length, file_record, channel_file_at, position_at, put}
+use Rattle.meaning.specs.Tables.{Tables, store_of, file_of, byte_of, channel_of, file_count, owner, place, kind_at, depth_at, length_at, file_length, file_record, channel_file_at, position_at, put}
 use Rattle.meaning.specs.Sound.{lengths_agree}
 use Rattle.tables.specs.ReadBack.{kind-written, depth-written, length-written, file-zeros-written, kind_kept, depth_kept, length_kept, file-zeros_kept}
 use Rattle.layout.specs.Lengths.{Lengths, lengths_agree_lem, same_lengths}

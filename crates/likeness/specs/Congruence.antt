@@ -10,7 +10,7 @@ use Rattle.records.specs.RowLaws.{lowest_cong, how_many_cong, sum_cong}
 use Rattle.records.specs.Tests.{and_right, and_false}
 use Rattle.meaning.specs.File.{needed}
 use Rattle.meaning.specs.Name.{names_in}
-use Rattle.meaning.specs.Store.{Store, Channel, file, in_use, is_directory, is_open, blocks_needed, free_blocks, free_file, free_channel, free_files, free_channels, named, names, held, is_orphan, let_go, front}
+use Rattle.meaning.specs.Store.{Store, Channel, in_use, is_directory, is_open, blocks_needed, free_blocks, free_file, free_channel, free_files, free_channels, named, names, held, is_orphan, let_go, front}
 use Rattle.meaning.specs.Result.{missing, nowhere, all_open, all_used}
 use Rattle.trees.specs.AfterFile as after
 use Rattle.trees.specs.Rewrite as trees

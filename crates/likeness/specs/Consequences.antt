@@ -7,7 +7,7 @@ use Rattle.records.specs.Rows.{pick}
 use Rattle.records.specs.Tests.{and_false}
 use Rattle.meaning.specs.File.{writeFILE}
 use Rattle.meaning.specs.FileLaws.{byte_before, byte_past}
-use Rattle.meaning.specs.Store.{Store, file, channel, no_channel, no_file, ordinary, after, after_all, is_open, is_orphan, let_go}
+use Rattle.meaning.specs.Store.{Store, file, channel, no_channel, no_file, after, after_all, is_open, is_orphan, let_go}
 use Rattle.meaning.specs.Result.{Result, refused, unless, on_channel, if_fits}
 use Rattle.meaning.specs.ChannelCalls.{close, write}
 use Rattle.meaning.specs.Tables.{Tables, store_of}

@@ -1,5 +1,5 @@
 -- A directory of a sound store in the block table: its records lie there.
-use Rattle.std.specs.Prelude.{ℕ, ◌+◌, ◌-◌, ◌*◌, ◌/◌, ◌≤◌, ◌<◌, ◌≡◌, true, length}
+use Rattle.std.specs.Prelude.{ℕ, ◌+◌, ◌*◌, ◌/◌, ◌≤◌, ◌<◌, ◌≡◌, true, length}
 use Rattle.std.proofs.Common.{arith}
 use Rattle.meaning.specs.File.{needed}
 use Rattle.meaning.specs.Name.{record_count}

@@ -1,5 +1,6 @@
 // Names looked up, from directory to directory.
 #![tactic(auto)]
+
 ghost use Rattle.std.specs.Prelude.{◌≡◌, ◌+◌, ◌*◌, ◌/◌, ◌≤◌, true, length};
 ghost use Rattle.soundness.specs.Seen.{files_store};
 ghost use Rattle.meaning.specs.Tables.{file_length};

@@ -1,5 +1,6 @@
 // The types that calls speak in. Every definition of the store is in specs/.
 #![tactic(auto)]
+
 ghost use Rattle.std.specs.Prelude.{◌≡◌};
 ghost use Rattle.meaning.specs.Run.{number_of};
 

@@ -1,8 +1,8 @@
 // A name judged, located and its record found: what every call on names begins with.
 #![tactic(auto)]
+
 ghost use Rattle.meaning.specs.Tables.{tables};
 ghost use Rattle.meaning.specs.Name.{syllables};
-
 ghost use Rattle.names.specs.FormLaws.{Counted};
 ghost use Rattle.lookup.specs.Filed.{filed, Shelves};
 ghost use Rattle.naming.specs.Judged.{OnName};

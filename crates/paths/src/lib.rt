@@ -1,5 +1,6 @@
 // Syllables are taken from the left, one at a time (01, "Names"). Whatever takes or makes the reader is thin and walked by hand; the work is in covered functions.
 #![tactic(auto)]
+
 ghost use Rattle.std.specs.Prelude.{◌≡◌};
 ghost use Rattle.paths.specs.Taking.{syllable_end, taken_at, end_taken, behind, reader_at, left_of};
 

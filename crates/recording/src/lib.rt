@@ -1,5 +1,6 @@
 // A name's record written into its directory, or made blank.
 #![tactic(auto)]
+
 ghost use Rattle.std.specs.Prelude.{◌≡◌, ◌+◌, ◌*◌, ◌≤◌, ◌<◌, max, length, true};
 ghost use Rattle.meaning.specs.Name.{blank_record, is_syllable};
 ghost use Rattle.meaning.specs.Store.{is_directory};

@@ -1,5 +1,6 @@
 // Numbers in fixed-size records, low byte first. Definitions and laws, of rows of indices too, are in specs/.
 #![tactic(auto)]
+
 ghost use Rattle.std.specs.Prelude.{◌≡◌, [], ◌∷◌, ◌+◌, ◌*◌, ◌≤◌, ◌<◌, length};
 ghost use Rattle.std.proofs.lemmas.List.Edits.{sets};
 ghost use Rattle.records.specs.Numbers.{one, two, four, two_bytes, four_bytes, zeros};

@@ -1,5 +1,6 @@
 // Whether four lent tables are a sound store, decided on any bytes (01, "A store is sound when all of these hold").
 #![tactic(auto)]
+
 ghost use Rattle.std.specs.Prelude.{◌≡◌, true, ℕ, suc, ◌+◌, ◌-◌, ◌*◌, ◌≤◌, ◌<◌, length};
 ghost use Rattle.records.specs.Rows.{every};
 ghost use Rattle.meaning.specs.Name.{is_written, same, entry_in};

@@ -4,7 +4,7 @@ use Rattle.std.proofs.Math.Path.{refl, ap}
 use Rattle.std.proofs.Common.{◌∙◌, ltb-false}
 use Rattle.std.proofs.lemmas.Bool.{not-false}
 use Rattle.meaning.specs.File.{readFILE}
-use Rattle.meaning.specs.Store.{Store, Channel, file, channel, after, after_all, channel_to, is_open}
+use Rattle.meaning.specs.Store.{Store, Channel, after_all, channel_to, is_open}
 use Rattle.meaning.specs.Result.{on_channel}
 use Rattle.meaning.specs.ChannelCalls.{read, seek, seek_to, fstat, last_position}
 use Rattle.source.specs.Filing.{readFS, seekFS, fstatFS}

@@ -6,9 +6,8 @@ use Rattle.std.proofs.lemmas.List.{get_or_at}
 use Rattle.std.proofs.lemmas.Bool.{not-false}
 use Rattle.records.specs.Tests.{not_so}
 use Rattle.meaning.specs.Name.{record_count, is_blank, entry_at, name_count, listing}
-use Rattle.meaning.specs.Store.{Store, after_all, is_directory, within, named, front, last}
+use Rattle.meaning.specs.Store.{Store, after_all, is_directory, named, front, last}
 use Rattle.meaning.specs.NameCalls.{ls}
-use Rattle.soundness.specs.Use.{used}
 use Rattle.soundness.specs.WellFacts.{directory-length, blank_file, named_used}
 use Rattle.lookup.specs.Walk.{named_more}
 use Rattle.trees.specs.Lookups.{within_is}

@@ -2,7 +2,7 @@
 use Rattle.std.specs.Prelude.{ℕ, ◌<◌, ◌≡◌, refl, ◌≢◌, true}
 use Rattle.std.proofs.Math.Option.{some}
 use Rattle.std.proofs.Common.{arith}
-use Rattle.meaning.specs.Store.{Store, Channel, file, channel, after, channel_to, in_use, is_open}
+use Rattle.meaning.specs.Store.{Store, Channel, channel, after, channel_to, in_use, is_open}
 use Rattle.soundness.specs.Use.{used}
 use Rattle.soundness.specs.WellFacts.{open_channel}
 use Rattle.source.specs.Sets.{◌∈dom◌}

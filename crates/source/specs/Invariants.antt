@@ -8,7 +8,7 @@ use Rattle.meaning.specs.Store.{Store, after_all, root, in_use, is_directory, wi
 use Rattle.meaning.specs.Tables.{store_of}
 use Rattle.meaning.specs.Run.{meaning, changes_of}
 use Rattle.layout.specs.Layout.{sound_layout}
-use Rattle.soundness.specs.Use.{used, of_used, directory_used}
+use Rattle.soundness.specs.Use.{of_used, directory_used}
 use Rattle.soundness.specs.Well.{Well}
 use Rattle.soundness.specs.WellFacts.{directory-form, blank_file, root-directory, open_channel, naming_record}
 use Rattle.lookup.specs.Filed.{sound_well}

@@ -4,13 +4,12 @@ use Rattle.std.specs.Prelude.{◌≡◌, ◌≢◌, ◌⊎◌, List, Bool, true,
 use Rattle.std.proofs.Math.Path.{refl, ap}
 use Rattle.std.proofs.Common.{◌∙◌, arith}
 use Rattle.std.proofs.Math.Logic.{inl, inr, ⊎_elim}
-use Rattle.std.proofs.Math.Option.{some}
 use Rattle.std.proofs.Math.Dec.{ltb}
 use borrow.Author.Tests.{eq-eqb, ne_eqb, ltb-true, ltb-false, lt-leb, not-false}
 use Rattle.records.specs.RowLaws.{sum_update}
 use Rattle.records.specs.Tests.{and_false, tested}
 use Rattle.meaning.specs.File.{needed, longest, writeFILE}
-use Rattle.meaning.specs.Store.{Store, Change, file, channel, in_use, is_open, free_blocks}
+use Rattle.meaning.specs.Store.{Store, Change, in_use, is_open, free_blocks}
 use Rattle.meaning.specs.Result.{Result, done, unless, on_channel, if_fits}
 use Rattle.meaning.specs.ChannelCalls.{write, seek, seek_to, last_position}
 use Rattle.meaning.specs.Run.{number_of}

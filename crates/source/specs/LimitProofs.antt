@@ -2,7 +2,6 @@
 use Rattle.std.specs.Prelude.{ℕ, zero, suc, ◌-◌, ◌*◌, ◌≤◌, ◌<◌, ◌≡◌, refl, ◌≢◌, List, [], ◌∷◌, true, false, length, get_or}
 use Rattle.std.proofs.Common.{ap, sym, ◌∙◌, true≢false, arith, length-take, get_or-take, le-leb}
 use Rattle.std.proofs.Math.Logic.{⊎_elim}
-use Rattle.std.proofs.Math.Option.{some}
 use Rattle.records.specs.Rows.{sum}
 use Rattle.records.specs.RowLaws.{sum_cong}
 use Rattle.records.specs.Tests.{same_or_not, tested}

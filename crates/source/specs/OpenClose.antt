@@ -11,7 +11,6 @@ use Rattle.meaning.specs.Store.{Store, Channel, channel, after, after_all, no_ch
 use Rattle.meaning.specs.Result.{on_channel, all_open}
 use Rattle.meaning.specs.ChannelCalls.{close}
 use Rattle.meaning.specs.NameCalls.{open'}
-use Rattle.soundness.specs.Use.{used}
 use Rattle.soundness.specs.WellFacts.{root-directory, ordinary-form}
 use Rattle.trees.specs.Standing.{missing_some}
 use Rattle.source.specs.Sets.{◌∈dom◌, ◌∉dom◌}

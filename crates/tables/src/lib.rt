@@ -1,5 +1,6 @@
 // Records of the lent tables as structs, and searches over them.
 #![tactic(auto)]
+
 ghost use Rattle.std.specs.Prelude.{◌≡◌, ◌+◌, ◌-◌, ◌*◌, ◌≤◌, ◌<◌, length, ltb};
 ghost use Rattle.records.specs.Numbers.{zeros, with_record};
 ghost use Rattle.meaning.specs.File.{needed};

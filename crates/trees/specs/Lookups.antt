@@ -1,5 +1,5 @@
 -- What names stand for where one record of one directory changes; where no directory changes; and how deep a directory lies.
-use Rattle.std.specs.Prelude.{ℕ, ◌-◌, ◌<◌, ◌≡◌, ◌≢◌, Bool, true, false, length}
+use Rattle.std.specs.Prelude.{ℕ, ◌<◌, ◌≡◌, ◌≢◌, Bool, true, false, length}
 use Rattle.std.proofs.Math.Path.{refl, ap}
 use Rattle.std.proofs.Common.{sym, ◌∙◌, ⊎_elim, true≢false, arith}
 use mathlib.Core.List.{List, [], ◌∷◌, reverse}

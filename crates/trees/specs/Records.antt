@@ -1,5 +1,5 @@
 -- The record of a name in a directory of which one record is written anew or added.
-use Rattle.std.specs.Prelude.{ℕ, ◌-◌, ◌*◌, ◌≤◌, ◌<◌, ◌≡◌, ◌≢◌, List, false, not, length}
+use Rattle.std.specs.Prelude.{ℕ, ◌*◌, ◌≤◌, ◌<◌, ◌≡◌, ◌≢◌, List, false, not, length}
 use Rattle.std.proofs.Common.{ap, sym, ◌∙◌, ⊎_elim, true≢false, arith, lt-ltb, le-ltb}
 use Rattle.records.specs.RowLaws.{lowest_hit, lowest_misses, lowest_is}
 use Rattle.records.specs.Tests.{same_or_not, lt_or_ge}

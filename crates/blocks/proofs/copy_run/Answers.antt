@@ -1,9 +1,9 @@
 use Prim.Native.Nat.{ℕ, ◌+◌, ◌-◌, ◌≤◌}
 use mathlib.Core.Path.{◌≡◌}
-use mathlib.Core.List.{List, [], ◌++◌, append-nil, append_assoc}
+use mathlib.Core.List.{List, ◌++◌, append_assoc}
 use native.Mathlib.Omega.{arith}
-use lib.ListN.{length, take, drop, length-take, length-drop, drop_of_length-le}
-use lib.Seq.{sets, sets-eq, drop-drop, take_all}
+use lib.ListN.{length, take, drop, length-take, length-drop}
+use lib.Seq.{sets, sets-eq, drop-drop}
 use Rattle.blocks.proofs.copy_run.Goals as goal
 
 -- the part holds the run afterwards, and so the whole holds it there

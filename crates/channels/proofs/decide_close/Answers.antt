@@ -5,8 +5,8 @@ use mathlib.Core.Logic.{◌≢◌}
 use mathlib.Core.List.{List, [], ◌∷◌}
 use mathlib.Core.Bool.{true}
 use native.Mathlib.Omega.{arith}
-use Rattle.meaning.specs.Store.{file, channel, no_channel, in_use, names, let_go}
-use Rattle.meaning.specs.Tables.{Tables, tables, store_of, channel_of, channel_count}
+use Rattle.meaning.specs.Store.{channel, no_channel, in_use, names, let_go}
+use Rattle.meaning.specs.Tables.{Tables, tables, store_of, channel_of}
 use Rattle.meaning.specs.ChannelCalls.{close}
 use Rattle.meaning.specs.Result.{Result, done}
 use Rattle.meaning.specs.Run.{Call, result_of, meaning, accepts}

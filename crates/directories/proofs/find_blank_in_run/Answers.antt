@@ -1,4 +1,3 @@
-use Prim.Native.Nat.{◌-◌}
 use borrow.Author.Rules.{rules}
 use Rattle.directories.specs.FindLaws.{blank_test, in_run_lem, run-found, run-passed, run_none}
 use Rattle.directories.proofs.find_blank_in_run.Goals as goal

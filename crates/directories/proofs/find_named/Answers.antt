@@ -1,4 +1,3 @@
-use Prim.Native.Nat.{◌-◌}
 use borrow.Author.Rules.{rules}
 use Rattle.directories.specs.FindLaws.{in_places, places-found, places-passed, places_none, run-held, run_inside}
 use Rattle.directories.proofs.find_named.Goals as goal

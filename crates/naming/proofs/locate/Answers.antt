@@ -1,5 +1,4 @@
 -- The root has no syllable; else the directory is looked up by all syllables but the last, and the file there by the last.
-use Prim.Native.Nat.{◌-◌}
 use native.Mathlib.Omega.{arith}
 use borrow.Author.Rules.{rules}
 use Rattle.naming.specs.LocateLaws.{reaches_front, last_inside, at-root, at_last}

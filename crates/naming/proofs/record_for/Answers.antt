@@ -1,5 +1,4 @@
 -- A name that stands for nothing goes to the first blank record; another has its own.
-use Prim.Native.Nat.{◌-◌}
 use native.Mathlib.Omega.{arith}
 use borrow.Author.Rules.{rules}
 use Rattle.lookup.specs.LookLaws.{lies_here}

@@ -1,6 +1,5 @@
-use Prim.Native.Nat.{suc, ◌-◌}
+use Prim.Native.Nat.{suc}
 use mathlib.Core.Path.{refl}
-use mathlib.Core.Bool.{true}
 use Rattle.records.specs.LoopLaws.{every_start}
 use Rattle.soundness.specs.RuleLoops.{file-passed, file_failed, rules-passed}
 use Rattle.soundness.specs.SoundLaws.{files_short}

@@ -1,7 +1,6 @@
-use Prim.Native.Nat.{ℕ, suc, ◌-◌, ◌/◌}
+use Prim.Native.Nat.{ℕ, suc, ◌/◌}
 use mathlib.Core.Path.{◌≡◌, refl, ◌∙◌}
 use mathlib.Core.List.{List}
-use mathlib.Core.Bool.{true}
 use lib.ListN.{length}
 use Rattle.records.specs.Rows.{every}
 use Rattle.records.specs.LoopLaws.{every_start}

@@ -1,5 +1,4 @@
 -- The records of the chain passed have other names than record i; the measure is what is left, the next one's number and 1.
-use Prim.Native.Nat.{◌-◌}
 use Rattle.soundness.specs.ChainLaws.{Looked}
 use Rattle.soundness.proofs.chain_new.Given as goal
 

@@ -1,12 +1,11 @@
-use Prim.Native.Nat.{ℕ, ◌-◌, ◌/◌}
+use Prim.Native.Nat.{ℕ, ◌/◌}
 use mathlib.Core.Path.{◌≡◌, refl, ◌∙◌}
 use mathlib.Core.List.{List}
-use mathlib.Core.Bool.{true}
 use lib.ListN.{length}
 use Rattle.records.specs.Rows.{every}
 use Rattle.records.specs.LoopLaws.{every_start}
 use Rattle.soundness.specs.RuleLoops.{rule-passed, rule_failed, rules-passed}
-use Rattle.meaning.specs.Sound.{channel_sound, channels_sound}
+use Rattle.meaning.specs.Sound.{channels_sound}
 use Rattle.meaning.specs.Tables.{store_of}
 use Rattle.soundness.specs.Seen.{channels_store}
 use borrow.Author.Rules.{rules}

@@ -1,7 +1,7 @@
 use Prim.Native.Nat.{ℕ, ◌+◌, ◌-◌}
 use mathlib.Core.Path.{◌≡◌, refl, ◌∙◌}
 use mathlib.Core.List.{List}
-use mathlib.Core.Bool.{Bool, true}
+use mathlib.Core.Bool.{Bool}
 use native.Mathlib.Omega.{arith}
 use Rattle.records.specs.LoopLaws.{every_start}
 use Rattle.soundness.specs.RuleLoops.{rule-passed, rule_failed, rules-passed}

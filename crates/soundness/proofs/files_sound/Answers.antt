@@ -1,12 +1,11 @@
-use Prim.Native.Nat.{ℕ, suc, ◌-◌, ◌/◌}
+use Prim.Native.Nat.{ℕ, suc, ◌/◌}
 use mathlib.Core.Path.{◌≡◌, refl, ◌∙◌}
 use mathlib.Core.List.{List}
-use mathlib.Core.Bool.{true}
 use lib.ListN.{length}
 use Rattle.records.specs.Rows.{every}
 use Rattle.records.specs.LoopLaws.{every_start}
 use Rattle.soundness.specs.RuleLoops.{file-passed, file_failed, rules-passed}
-use Rattle.meaning.specs.Sound.{file_sound, files_sound}
+use Rattle.meaning.specs.Sound.{files_sound}
 use Rattle.meaning.specs.Tables.{store_of}
 use Rattle.soundness.specs.Seen.{files_store}
 use borrow.Author.Rules.{rules}

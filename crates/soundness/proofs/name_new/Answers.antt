@@ -1,6 +1,4 @@
-use Prim.Native.Nat.{◌-◌}
 use mathlib.Core.Path.{sym}
-use mathlib.Core.Bool.{true}
 use Rattle.records.specs.LoopLaws.{every_start, every-step}
 use Rattle.soundness.specs.RuleLoops.{rules-passed}
 use Rattle.soundness.specs.NewNames.{other, blank_new, compared_new, other_name, same_old}
@@ -34,13 +32,12 @@ returns-then-same_name c =
     _ _ c.record_start.ensures _ c.same_name.ensures (search rules) c.if-same_name.true
 
 pub loop-j-preserved : goal.loop-j-preserved
-loop-j-preserved c =
-    (
-      search rules,
-      every-step (other _ _ _) _ c.loop-j.invariant.1
-          (other_name _ _ _ _ c.record_start-at.ensures _ c.zeros_at.ensures c.if-zeros_at.false
-          _ _ c.record_start.ensures _ c.same_name.ensures c.if-same_name.false),
-    )
+loop-j-preserved c = (
+  search rules,
+  every-step (other _ _ _) _ c.loop-j.invariant.1
+      (other_name _ _ _ _ c.record_start-at.ensures _ c.zeros_at.ensures c.if-zeros_at.false
+      _ _ c.record_start.ensures _ c.same_name.ensures c.if-same_name.false),
+)
 
 pub returns : goal.returns
 returns c =

@@ -1,7 +1,6 @@
-use Prim.Native.Nat.{ℕ, ◌-◌, ◌*◌, ◌<◌}
+use Prim.Native.Nat.{ℕ, ◌*◌, ◌<◌}
 use mathlib.Core.Path.{◌≡◌, ap, ◌∙◌}
 use mathlib.Core.List.{List}
-use mathlib.Core.Bool.{true}
 use native.Mathlib.Omega.{arith}
 use Rattle.records.specs.LoopLaws.{every_start}
 use Rattle.soundness.specs.RuleLoops.{rule-passed, rule_failed, rules-passed}

@@ -1,6 +1,4 @@
-use Prim.Native.Nat.{◌-◌}
 use mathlib.Core.Path.{refl}
-use mathlib.Core.Bool.{true}
 use Rattle.records.specs.LoopLaws.{every_start}
 use Rattle.soundness.specs.RuleLoops.{rule-passed, rule_failed, rules-passed}
 use Rattle.meaning.specs.Sound.{block_sound}

@@ -1,11 +1,9 @@
-use Prim.Native.Nat.{ℕ, ◌-◌}
+use Prim.Native.Nat.{ℕ}
 use mathlib.Core.Path.{◌≡◌, refl, ◌∙◌}
 use mathlib.Core.List.{List}
-use mathlib.Core.Bool.{true}
 use Rattle.records.specs.Rows.{every}
 use Rattle.records.specs.LoopLaws.{every_start}
 use Rattle.soundness.specs.RuleLoops.{rule-passed, rule_failed, rules-passed}
-use Rattle.meaning.specs.Sound.{record_sound}
 use Rattle.soundness.specs.Rules.{records_at}
 use Rattle.soundness.specs.Seen.{files_store}
 use Rattle.soundness.specs.Slots.{slot-few, slot_fits}

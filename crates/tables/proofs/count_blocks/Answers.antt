@@ -1,6 +1,4 @@
-use Prim.Native.Nat.{◌-◌}
 use mathlib.Core.Path.{sym, ◌∙◌}
-use mathlib.Core.Logic.{⊎_elim}
 use native.Mathlib.Omega.{arith}
 use Rattle.records.specs.LoopLaws.{count_start, counted_equal, skipped_other, counted_all}
 use Rattle.tables.specs.SearchLaws.{number_test, blocks_with-number}

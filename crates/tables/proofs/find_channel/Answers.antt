@@ -1,4 +1,3 @@
-use Prim.Native.Nat.{◌-◌}
 use native.Mathlib.Nat.{le_of_eq}
 use Rattle.records.specs.LoopLaws.{search_start, search_none, found_equal, passed-other}
 use Rattle.tables.specs.Searches.{channel_with}
