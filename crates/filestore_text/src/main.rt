@@ -40,7 +40,7 @@ struct Piece {
 }
 
 // A step through the piece. What it prints, the output's first bytes, is handed to write.
-// No contract can say that write takes it: this one says that it is what the step has to print.
+// The contract does not say that write takes it: it says that it is what the step has to print.
 fn serve_and_write<W: Write>(
     output: &mut W,
     blocks: &mut [u8],
