@@ -11,7 +11,7 @@ use Rattle.records.specs.RowLaws.{how_many_cong, how_many_update}
 use Rattle.records.specs.Tests.{lt_or_ge}
 use Rattle.records.specs.Numbers.{one, two}
 use Rattle.meaning.specs.Name.{Entry, entry_in, record_count, record_at, entry_at, names_in, with_entry}
-use Rattle.meaning.specs.FileLaws.{byte_past}
+use Rattle.meaning.proofs.FileLaws.{byte_past}
 use Rattle.directories.specs.EntryLaws.{length_record, count_with, entry-same, entry_other}
 
 -- a record past the end names no file

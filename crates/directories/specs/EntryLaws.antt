@@ -9,7 +9,7 @@ use Rattle.std.proofs.Math.Seq.{get_or-drop, get_or-take, ext_get_or}
 use Rattle.records.specs.Tests.{lt_or_ge}
 use Rattle.records.specs.Numbers.{zeros}
 use Rattle.records.specs.NumberLaws.{zeros_cong}
-use Rattle.meaning.specs.FileLaws.{length-write, byte_data, byte_before, byte_after}
+use Rattle.meaning.proofs.FileLaws.{length-write, byte_data, byte_before, byte_after}
 use Rattle.meaning.specs.Name.{entry_in, record_count, record_at, is_blank, entry_at, with_entry}
 
 -- ---- a record of a directory, byte by byte

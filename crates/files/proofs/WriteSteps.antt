@@ -6,7 +6,7 @@ use native.Mathlib.Omega.{arith}
 use lib.ListN.{length, get_or}
 use Rattle.records.specs.Numbers.{with_record}
 use Rattle.meaning.specs.File.{needed, zero_bytes, writeFILE}
-use Rattle.meaning.specs.FileLaws.{length-write}
+use Rattle.meaning.proofs.FileLaws.{length-write}
 use Rattle.meaning.specs.Store.{File, file, free_blocks}
 use Rattle.meaning.specs.Tables.{Tables, tables, store_of, file_count, kind_at, depth_at, length_at, file_length, file_record, taken_from, laid, put}
 use Rattle.tables.specs.StoreLaws.{file-length, store_kind, store_depth, store_length}

@@ -4,7 +4,7 @@ use Rattle.std.proofs.Common.{sym, ap, ◌∙◌, inl, inr, ⊎_elim, arith, ext
 use Rattle.std.proofs.lemmas.List.{get_or-replicate}
 use Rattle.records.specs.Tests.{lt_or_ge}
 use Rattle.meaning.specs.File.{zero_bytes, writeFILE}
-use Rattle.meaning.specs.FileLaws.{length-zeros, byte_past, length-write, byte_data, byte_before, byte_after}
+use Rattle.meaning.proofs.FileLaws.{length-zeros, byte_past, length-write, byte_data, byte_before, byte_after}
 use Rattle.meaning.specs.Tables.{owner, laid}
 use Rattle.blocks.specs.Runs.{byte_no, laid_run}
 use Rattle.blocks.specs.RunLaws.{Within, within_or_not, length-laid_run, laid_in, laid_out, laid-whole}

@@ -10,7 +10,7 @@ use Rattle.meaning.specs.Store.{Change}
 use Rattle.meaning.specs.Result.{Result, refused, done}
 use Rattle.meaning.specs.Tables.{Tables}
 use Rattle.meaning.specs.Run.{Call, Answer, accepted, refusal, Promise, result_of, answer_of, width, number_of}
-use Rattle.meaning.specs.Determined.{same_outcome}
+use Rattle.meaning.proofs.Determined.{same_outcome}
 use Rattle.meaning.specs.Answers.{reported}
 use Rattle.meaning.specs.declared.Report.{Report}
 use Rattle.filestore.specs.declared.Told.{Told}

@@ -10,7 +10,7 @@ use borrow.Author.Tests.{ltb-true, ltb-false, eqb-true, not-false}
 use Rattle.records.specs.RowLaws.{lowest_hit}
 use Rattle.records.specs.Tests.{and_left, or_right, same_or_not, not_so}
 use Rattle.meaning.specs.File.{readFILE}
-use Rattle.meaning.specs.FileLaws.{length-read}
+use Rattle.meaning.proofs.FileLaws.{length-read}
 use Rattle.meaning.specs.Name.{syllables}
 use Rattle.meaning.specs.Store.{Store, Channel, channel, after_all, channel_to, root, in_use, is_directory, is_open, free_channel, named}
 use Rattle.meaning.specs.Result.{missing, all_open}

@@ -6,7 +6,7 @@ use Rattle.std.proofs.Math.ListN.{length}
 use borrow.Author.Tests.{eqb-false}
 use Rattle.records.specs.Tests.{not_so}
 use Rattle.meaning.specs.File.{writeFILE, needed, longest}
-use Rattle.meaning.specs.FileLaws.{length-write}
+use Rattle.meaning.proofs.FileLaws.{length-write}
 use Rattle.meaning.specs.Store.{Store, file, channel, after, no_channel, channel_to, ordinary, is_directory, is_open, free_blocks, let_go}
 use Rattle.meaning.specs.ChannelCalls.{close, write}
 use Rattle.meaning.specs.declared.Report.TheVariants.{IsDirectory}

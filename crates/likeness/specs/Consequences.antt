@@ -6,15 +6,16 @@ use Rattle.std.proofs.Math.Bool.{true, false}
 use Rattle.records.specs.Rows.{pick}
 use Rattle.records.specs.Tests.{and_false}
 use Rattle.meaning.specs.File.{writeFILE}
-use Rattle.meaning.specs.FileLaws.{byte_before, byte_past}
+use Rattle.meaning.proofs.FileLaws.{byte_before, byte_past}
 use Rattle.meaning.specs.Store.{Store, file, channel, no_channel, no_file, after, after_all, is_open, is_orphan, let_go}
 use Rattle.meaning.specs.Result.{Result, refused, unless, on_channel, if_fits}
 use Rattle.meaning.specs.ChannelCalls.{close, write}
 use Rattle.meaning.specs.Tables.{Tables, store_of}
 use Rattle.meaning.specs.Sound.{sound}
 use Rattle.meaning.specs.Run.{Call, Prepare, Open, Close, Write, meaning, result_of, answer_of, changes_of, Answer, accepted, number_of, run}
-use Rattle.meaning.specs.Answers.{reported, never_accepted}
-use Rattle.meaning.specs.Refusals.{refusal-alone}
+use Rattle.meaning.specs.Answers.{reported}
+use Rattle.meaning.proofs.AnswerLaws.{never_accepted}
+use Rattle.meaning.proofs.Refusals.{refusal-alone}
 use Rattle.meaning.specs.Running.{step, zeroed, wrong}
 use Rattle.meaning.specs.Text.{text}
 use Rattle.meaning.specs.declared.Report.{Report}

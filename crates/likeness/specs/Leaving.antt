@@ -13,7 +13,7 @@ use Rattle.meaning.specs.Store.{Store, File, file, channel, root, directory, no_
 use Rattle.meaning.specs.Result.{Result, refused, done, unless, with_syllables, missing, if_fits}
 use Rattle.meaning.specs.NameCalls.{create, parent, naming, if_naming_fits}
 use Rattle.meaning.specs.Run.{Prepare, Create, meaning, answer_of, changes_of, accepted}
-use Rattle.meaning.specs.Answers.{never_accepted}
+use Rattle.meaning.proofs.AnswerLaws.{never_accepted}
 use Rattle.meaning.specs.declared.Report.{Report}
 use Rattle.meaning.specs.declared.Report.TheVariants.{BadName}
 use Rattle.likeness.specs.Alike.{Listed, rewrites, is_create, empties, left, listed_after}

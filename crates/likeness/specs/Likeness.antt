@@ -3,15 +3,15 @@ use Rattle.std.specs.Prelude.{ℕ, ◌+◌, ◌≡◌, refl, List, [], ◌∷◌
 use Rattle.std.proofs.Math.Path.{ap}
 use Rattle.std.proofs.Common.{sym, ◌∙◌, drop_at}
 use Rattle.meaning.specs.File.{over, readFILE}
-use Rattle.meaning.specs.FileLaws.{length_over}
+use Rattle.meaning.proofs.FileLaws.{length_over}
 use Rattle.meaning.specs.Store.{Store, channel, channel_to, is_open}
 use Rattle.meaning.specs.Tables.{Tables, store_of}
 use Rattle.meaning.specs.Result.{Result, done, unless, on_channel}
 use Rattle.meaning.specs.ChannelCalls.{read}
 use Rattle.meaning.specs.Sound.{sound}
 use Rattle.meaning.specs.Run.{Call, Read, meaning, result_of, answer_of, bytes_of, width, accepted, Outcome, run, Promise}
-use Rattle.meaning.specs.Answers.{never_accepted}
-use Rattle.meaning.specs.Determined.{run-outcome}
+use Rattle.meaning.proofs.AnswerLaws.{never_accepted}
+use Rattle.meaning.proofs.Determined.{run-outcome}
 use Rattle.meaning.specs.declared.Report.TheVariants.{NoSuchCid}
 use Rattle.keeping.specs.Proofs.{sound-accepted, store_after, sound_kept}
 use Rattle.likeness.specs.Alike.{Listed, Alike, SameCall, same, other-bytes, listed_after, left, AlikeOutcomes, Demanded}

@@ -7,7 +7,7 @@ use mathlib.Core.List.{List, [], ◌∷◌}
 use Rattle.std.proofs.Math.Bool.{true, false, not}
 use Rattle.std.proofs.Math.ListN.{length}
 use Rattle.meaning.specs.File.{readFILE, writeFILE}
-use Rattle.meaning.specs.FileLaws.{length-read, length-write}
+use Rattle.meaning.proofs.FileLaws.{length-read, length-write}
 use Rattle.meaning.specs.Store.{Store, Change, file, channel, channel_to, ordinary, after_all}
 use Rattle.meaning.specs.Result.{Result, refused, done, unless, on_channel, if_fits}
 use Rattle.meaning.specs.ChannelCalls.{read, write}

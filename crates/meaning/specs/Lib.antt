@@ -1,5 +1,4 @@
 pub mod File
-pub mod FileLaws
 pub mod Name
 pub mod Store
 pub mod Result
@@ -8,14 +7,9 @@ pub mod NameCalls
 pub mod Tables
 pub mod Sound
 pub mod Run
-pub mod Determined
 pub mod Answers
-pub mod Refusals
-pub mod PromiseLaws
-pub mod Outcomes
 pub mod Text
 pub mod Running
 pub mod Figures
 pub mod Damage
 pub mod Sessions
-pub mod Full

@@ -9,7 +9,8 @@ use Rattle.meaning.specs.File.{over}
 use Rattle.meaning.specs.Tables.{Tables}
 use Rattle.meaning.specs.Result.{Result, refused, done, unless}
 use Rattle.meaning.specs.Run.{Call, width, accepted, Promise, result_of, answer_of, bytes_of}
-use Rattle.meaning.specs.Answers.{counted, never_accepted}
+use Rattle.meaning.specs.Answers.{counted}
+use Rattle.meaning.proofs.AnswerLaws.{never_accepted}
 use Rattle.meaning.specs.declared.Report.{Report}
 use Rattle.meaning.specs.declared.Counted.{Counted}
 use Rattle.meaning.specs.declared.Counted.TheVariants.{Of, Refused}

@@ -8,7 +8,7 @@ use Rattle.records.specs.Rows.{pick}
 use Rattle.records.specs.Numbers.{two_bytes}
 use Rattle.records.specs.Tests.{lt_or_ge}
 use Rattle.meaning.specs.File.{readFILE, writeFILE}
-use Rattle.meaning.specs.FileLaws.{byte_first, byte_second}
+use Rattle.meaning.proofs.FileLaws.{byte_first, byte_second}
 use Rattle.meaning.specs.Name.{slash, entry, written, record_count, record_at, is_blank, with_entry, before, split, are_syllables, syllables, names_from, listing}
 use Rattle.source.specs.Files.{BYTE, SeqBYTE}
 

@@ -4,7 +4,7 @@ use Rattle.std.specs.Prelude.{ℕ, ◌+◌, max, ◌≡◌, refl, ◌≢◌, ◌
 use Rattle.std.proofs.Common.{ap, sym, ◌∙◌, eq-eqb, ne_eqb}
 use Rattle.std.proofs.Math.Option.{some, none-ne-some}
 use Rattle.meaning.specs.File.{writeFILE}
-use Rattle.meaning.specs.FileLaws.{length-write}
+use Rattle.meaning.proofs.FileLaws.{length-write}
 use Rattle.source.specs.Sets.{◌∈dom◌, ◌◁◌, ◌⩤◌, the, ◌··◌, seq, the_name}
 use Rattle.source.specs.Files as Files
 use Rattle.source.specs.Files.{FILE, FID, FSTORE, ◌after◌, readSS}

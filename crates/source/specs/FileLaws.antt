@@ -7,7 +7,7 @@ use Rattle.std.proofs.Math.ListN.{get_elem?}
 use Rattle.std.proofs.lemmas.Bool.{lt-leb}
 use Rattle.records.specs.Tests.{lt_or_ge}
 use Rattle.meaning.specs.File.{readFILE, writeFILE}
-use Rattle.meaning.specs.FileLaws.{length-read, byte_read, length-write, byte_data, byte_before, byte_after, byte_past}
+use Rattle.meaning.proofs.FileLaws.{length-read, byte_read, length-write, byte_data, byte_before, byte_after, byte_past}
 use Rattle.source.specs.Sets.{◌⇸◌, above, ◌⊕◌, ◌◁◌, ◌··◌, seq}
 use Rattle.source.specs.Files.{FILE, ◌after◌, ◌shift◌, zeroes}
 use Rattle.source.specs.Files as Schema

@@ -13,7 +13,7 @@ use Rattle.meaning.specs.Store.{Store, Change, after, after_all, in_use, blocks_
 use Rattle.meaning.specs.Tables.{Tables, store_of, file_of, byte_of}
 use Rattle.meaning.specs.Sound.{sound}
 use Rattle.meaning.specs.Run.{Outcome, meaning, changes_of}
-use Rattle.meaning.specs.Determined.{run-outcome}
+use Rattle.meaning.proofs.Determined.{run-outcome}
 use Rattle.layout.specs.Layout.{sound_layout}
 use Rattle.layout.specs.Room.{same_blocks, same-files}
 use Rattle.layout.specs.Counting.{free_and_needed}

@@ -9,8 +9,8 @@ use Rattle.meaning.specs.Store.{Store}
 use Rattle.meaning.specs.Result.{Result, refused, done}
 use Rattle.meaning.specs.Tables.{Tables, store_of}
 use Rattle.meaning.specs.Run.{Call, Read, Open, Unlink, Create, Link, Move, Ls, Close, Fstat, Write, Seek, meaning, number_of, width, answer_of, Outcome}
-use Rattle.meaning.specs.Determined.{same_report}
-use Rattle.meaning.specs.Refusals.{refused_row}
+use Rattle.meaning.proofs.Determined.{same_report}
+use Rattle.meaning.proofs.Refusals.{refused_row}
 use Rattle.meaning.specs.declared.Report.{Report}
 use Rattle.meaning.specs.declared.Report.TheVariants.{Ok, NoSuchCid, NoSuchName, NoFreeCids, IsDirectory}
 use Rattle.source.specs.Accepted.{Ready}

@@ -12,8 +12,8 @@ use Rattle.meaning.specs.Result.{Result, refused, done, unless, with_syllables}
 use Rattle.meaning.specs.NameCalls.{create, open', link, unlink, move, ls, and_then}
 use Rattle.meaning.specs.Tables.{Tables, store_of, put_all}
 use Rattle.meaning.specs.Run.{Call, Prepare, Room, Create, Open, Unlink, Mkdir, Rmdir, Link, Move, Ls, Close, Fstat, Read, Write, Seek, meaning, result_of, number_of, width, answer_of, bytes_of, changes_of, accepted, Outcome}
-use Rattle.meaning.specs.Determined.{same_report}
-use Rattle.meaning.specs.Refusals.{refused_row}
+use Rattle.meaning.proofs.Determined.{same_report}
+use Rattle.meaning.proofs.Refusals.{refused_row}
 use Rattle.meaning.specs.declared.Report.TheVariants.{BadName, Ok}
 use Rattle.keeping.specs.Proofs.{sound-accepted, left-sound}
 use Rattle.source.specs.Naming.{NAME}

@@ -5,7 +5,7 @@ use Rattle.records.specs.Numbers.{one, zeros}
 use Rattle.records.specs.NumberLaws.{zeros_zero, zero_zeros}
 use Rattle.records.specs.Tests.{and_left, lt_or_ge, not_so}
 use Rattle.records.specs.RowLaws.{lowest_is}
-use Rattle.meaning.specs.FileLaws.{byte_past}
+use Rattle.meaning.proofs.FileLaws.{byte_past}
 use Rattle.meaning.specs.Name.{is_syllable, is_written, name_end, entry_in, record_count, record_at, is_blank, entry_at, record_named, in_directory}
 use Rattle.meaning.specs.Store.{Store, is_directory}
 use Rattle.names.specs.SameLaws.{is_same}

@@ -6,7 +6,7 @@ use borrow.Author.Rules.{rules}
 use lib.ListN.{length, take, drop, replicate-append-replicate}
 use lib.Seq.{take_at, drop_at}
 use Rattle.meaning.specs.File.{zero_bytes}
-use Rattle.meaning.specs.FileLaws.{length-zeros}
+use Rattle.meaning.proofs.FileLaws.{length-zeros}
 use Rattle.blocks.specs.Runs.{in_block, laid_run, Housed, Moving}
 use Rattle.blocks.specs.InBlock.{byte_fits, housed_part, laid_start, laid_next, laid_end}
 use Rattle.blocks.proofs.fill_gap.Goals as goal

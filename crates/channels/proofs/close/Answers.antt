@@ -7,7 +7,7 @@ use Rattle.meaning.specs.Store.{file, channel, no_file, no_channel}
 use Rattle.meaning.specs.Tables.{Tables, tables, put, put_all, channel_count, channel_record}
 use Rattle.meaning.specs.Run.{Call, Promise}
 use Rattle.meaning.specs.Answers.{reported}
-use Rattle.meaning.specs.PromiseLaws.{kept_report, kept_done}
+use Rattle.meaning.proofs.PromiseLaws.{kept_report, kept_done}
 use Rattle.meaning.specs.declared.Report.{Report}
 use Rattle.meaning.specs.declared.Report.TheVariants.{Ok}
 use Rattle.meaning.specs.declared.FileNo.{FileNo}

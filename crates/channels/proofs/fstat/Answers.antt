@@ -7,7 +7,7 @@ use Rattle.meaning.specs.Tables.{Tables, store_of, put_all}
 use Rattle.meaning.specs.ChannelCalls.{fstat}
 use Rattle.meaning.specs.Result.{Result, done}
 use Rattle.meaning.specs.Run.{Call, result_of, meaning, accepts, Promise, refusal, accepted}
-use Rattle.meaning.specs.PromiseLaws.{kept_refusal, kept_done}
+use Rattle.meaning.proofs.PromiseLaws.{kept_refusal, kept_done}
 use Rattle.meaning.specs.declared.Report.{Report}
 use Rattle.tables.specs.declared.ChannelRecord.{ChannelRecord}
 use Rattle.tables.specs.declared.FileRecord.{FileRecord}

@@ -6,13 +6,13 @@ use native.Mathlib.Omega.{arith}
 use lib.ListN.{length}
 use Rattle.records.specs.Numbers.{with_record}
 use Rattle.meaning.specs.File.{readFILE}
-use Rattle.meaning.specs.FileLaws.{length-read}
+use Rattle.meaning.proofs.FileLaws.{length-read}
 use Rattle.meaning.specs.Store.{channel, channel_to}
 use Rattle.meaning.specs.Tables.{Tables, tables, store_of, put, put_all, channel_count, channel_record}
 use Rattle.meaning.specs.ChannelCalls.{read}
 use Rattle.meaning.specs.Result.{Result, done}
 use Rattle.meaning.specs.Run.{Call, result_of, meaning, accepts, answer_of, bytes_of, changes_of, Promise, refusal, accepted}
-use Rattle.meaning.specs.PromiseLaws.{kept, kept_refusal}
+use Rattle.meaning.proofs.PromiseLaws.{kept, kept_refusal}
 use Rattle.meaning.specs.declared.Report.{Report}
 use Rattle.layout.specs.Layout.{sound_layout}
 use Rattle.soundness.specs.WellFacts.{file-size}

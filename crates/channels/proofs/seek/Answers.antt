@@ -5,7 +5,7 @@ use mathlib.Core.List.{List, [], ◌∷◌}
 use Rattle.records.specs.Numbers.{with_record}
 use Rattle.meaning.specs.Tables.{Tables, tables, put, put_all, channel_count, channel_record}
 use Rattle.meaning.specs.Run.{Call, Promise, refusal, accepted}
-use Rattle.meaning.specs.PromiseLaws.{kept_refusal, kept_done}
+use Rattle.meaning.proofs.PromiseLaws.{kept_refusal, kept_done}
 use Rattle.meaning.specs.Store.{channel, channel_to}
 use Rattle.meaning.specs.declared.Report.{Report}
 use Rattle.tables.specs.declared.ChannelRecord.{ChannelRecord}

@@ -8,7 +8,7 @@ use Rattle.meaning.specs.NameCalls.{rewritten}
 use Rattle.meaning.specs.Tables.{Tables, tables, store_of, put}
 use Rattle.meaning.specs.Run.{Call, Promise, Answer}
 use Rattle.meaning.specs.Answers.{reported}
-use Rattle.meaning.specs.PromiseLaws.{kept_report, kept_done}
+use Rattle.meaning.proofs.PromiseLaws.{kept_report, kept_done}
 use Rattle.meaning.specs.declared.Report.{Report}
 use Rattle.meaning.specs.declared.Report.TheVariants.{Ok}
 use Rattle.meaning.specs.declared.FileNo.{FileNo}

@@ -5,7 +5,7 @@ use mathlib.Core.List.{List, []}
 use Rattle.meaning.specs.Tables.{Tables, tables, store_of, put_all}
 use Rattle.meaning.specs.Run.{Call, Promise}
 use Rattle.meaning.specs.Answers.{reported}
-use Rattle.meaning.specs.PromiseLaws.{kept_report, kept_done}
+use Rattle.meaning.proofs.PromiseLaws.{kept_report, kept_done}
 use Rattle.meaning.specs.declared.Report.{Report}
 use Rattle.meaning.specs.declared.Report.TheVariants.{Ok}
 use Rattle.linking.specs.Link.{Decides, refuses_link, accepts-link}

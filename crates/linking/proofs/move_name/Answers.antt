@@ -6,7 +6,7 @@ use Rattle.meaning.specs.Store.{after_all}
 use Rattle.meaning.specs.Tables.{Tables, tables, store_of, put_all}
 use Rattle.meaning.specs.Run.{Call, Promise}
 use Rattle.meaning.specs.Answers.{reported}
-use Rattle.meaning.specs.PromiseLaws.{kept_report, kept_done}
+use Rattle.meaning.proofs.PromiseLaws.{kept_report, kept_done}
 use Rattle.meaning.specs.declared.Report.{Report}
 use Rattle.meaning.specs.declared.Report.TheVariants.{Ok}
 use Rattle.linking.specs.Act.{link_changes, drop_changes, Linkable, Droppable}

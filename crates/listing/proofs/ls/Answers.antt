@@ -6,7 +6,7 @@ use lib.ListN.{length}
 use Rattle.meaning.specs.File.{over}
 use Rattle.meaning.specs.Tables.{tables, put_all}
 use Rattle.meaning.specs.Run.{Call, Promise, refusal, accepted}
-use Rattle.meaning.specs.PromiseLaws.{kept_refusal, kept_done}
+use Rattle.meaning.proofs.PromiseLaws.{kept_refusal, kept_done}
 use Rattle.meaning.specs.declared.Report.{Report}
 use Rattle.meaning.specs.declared.FileNo.{FileNo}
 use Rattle.directories.specs.Find.{Lies}

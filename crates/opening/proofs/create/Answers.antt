@@ -11,7 +11,7 @@ use Rattle.meaning.specs.Store.{file, channel, channel_to, ordinary}
 use Rattle.meaning.specs.NameCalls.{rewritten}
 use Rattle.meaning.specs.Tables.{Tables, tables, store_of, put, put_all, channel_count, channel_record}
 use Rattle.meaning.specs.Run.{Call, Promise, Answer, refusal, accepted}
-use Rattle.meaning.specs.PromiseLaws.{kept_refusal, kept_done}
+use Rattle.meaning.proofs.PromiseLaws.{kept_refusal, kept_done}
 use Rattle.meaning.specs.declared.Report.{Report}
 use Rattle.meaning.specs.declared.ChannelNo.{ChannelNo}
 use Rattle.meaning.specs.declared.FileNo.{FileNo}

@@ -9,12 +9,12 @@ use lib.ListN.{length, replicate}
 use Rattle.records.specs.Numbers.{with_record}
 use Rattle.meaning.specs.Store.{prepared}
 use Rattle.meaning.specs.Tables.{Tables, tables, put, put_all, file_count, file_record}
-use Rattle.meaning.specs.FileLaws.{length-zeros}
+use Rattle.meaning.proofs.FileLaws.{length-zeros}
 use Rattle.meaning.specs.Sound.{lengths_agree}
 use Rattle.meaning.specs.Result.{unless}
 use Rattle.meaning.specs.Run.{Call, meaning, accepts, result_of, Promise}
 use Rattle.meaning.specs.Answers.{reported}
-use Rattle.meaning.specs.PromiseLaws.{kept_report, kept_done}
+use Rattle.meaning.proofs.PromiseLaws.{kept_report, kept_done}
 use Rattle.meaning.specs.declared.Report.TheVariants.{Ok, NotAStore}
 use Rattle.layout.specs.Lengths.{lengths_agree_lem}
 use Rattle.rooms.proofs.prepare.Goals as goal

@@ -12,7 +12,7 @@ use Rattle.meaning.specs.Sound.{sound}
 use Rattle.meaning.specs.ChannelCalls.{room}
 use Rattle.meaning.specs.Result.{done, unless}
 use Rattle.meaning.specs.Run.{Call, meaning, accepts, result_of, Promise, refusal, accepted}
-use Rattle.meaning.specs.PromiseLaws.{kept_refusal, kept_done}
+use Rattle.meaning.proofs.PromiseLaws.{kept_refusal, kept_done}
 use Rattle.meaning.specs.declared.Report.TheVariants.{NotAStore}
 use Rattle.tables.specs.Searches.{is_of_kind, is_to, free_block_count, files_with, channels_with}
 use Rattle.tables.specs.StoreLaws.{free_files_lem, free_channels_lem}

@@ -9,7 +9,7 @@ use borrow.Author.Tests.{lt-ltb, le-ltb, ltb-true, ltb-false, eq-eqb, ne_eqb}
 use lib.ListN.{length}
 use lib.Dec.{ltb, eqb}
 use Rattle.meaning.specs.File.{writeFILE, needed, longest}
-use Rattle.meaning.specs.FileLaws.{length-write}
+use Rattle.meaning.proofs.FileLaws.{length-write}
 use Rattle.meaning.specs.Store.{file, channel, channel_to, ordinary, free_blocks}
 use Rattle.meaning.specs.Tables.{Tables, tables, store_of}
 use Rattle.meaning.specs.ChannelCalls.{write}

@@ -8,7 +8,7 @@ use Rattle.records.specs.Numbers.{with_record}
 use Rattle.meaning.specs.Store.{Change, file, channel, channel_to, ordinary}
 use Rattle.meaning.specs.Tables.{Tables, tables, store_of, put, put_all, channel_record}
 use Rattle.meaning.specs.Run.{Call, Promise, refusal, accepted}
-use Rattle.meaning.specs.PromiseLaws.{kept_refusal, kept_done}
+use Rattle.meaning.proofs.PromiseLaws.{kept_refusal, kept_done}
 use Rattle.meaning.specs.declared.Report.{Report}
 use Rattle.tables.specs.declared.ChannelRecord.{ChannelRecord}
 use Rattle.files.specs.Files.{with_write}

@@ -8,7 +8,7 @@ use Rattle.meaning.specs.Result.{Result, refused, done}
 use Rattle.meaning.specs.Tables.{Tables, put_all}
 use Rattle.meaning.specs.Run.{Call, width, accepted, refusal, Outcome, Promise, result_of, answer_of, bytes_of, changes_of}
 use Rattle.meaning.specs.Answers.{reported}
-use Rattle.meaning.specs.Refusals.{refusal-alone}
+use Rattle.meaning.proofs.Refusals.{refusal-alone}
 use Rattle.meaning.specs.declared.Report.{Report}
 
 module _ (call : Call) (t : Tables) (buffer : List ℕ) where

@@ -9,7 +9,7 @@ use borrow.Author.Tests.{eqb-true, ne_eqb, lt-ltb}
 use Rattle.records.specs.Numbers.{two_bytes}
 use Rattle.records.specs.RowLaws.{lowest_is}
 use Rattle.meaning.specs.File.{writeFILE, longest}
-use Rattle.meaning.specs.FileLaws.{length-write}
+use Rattle.meaning.proofs.FileLaws.{length-write}
 use Rattle.meaning.specs.Name.{syllables, most_syllables, written, entry, is_blank, record_for_new, with_entry}
 use Rattle.meaning.specs.Store.{Store, in_use, is_directory, named, last}
 use Rattle.meaning.specs.Result.{Result, refused, unless, with_syllables, missing, nowhere, all_open, all_used, if_fits}

@@ -4,8 +4,9 @@ use Rattle.std.specs.Prelude.{ℕ, ◌≡◌, List}
 use Rattle.std.proofs.Common.{ap}
 use Rattle.meaning.specs.Tables.{Tables}
 use Rattle.meaning.specs.Run.{Call, Prepare, Room, Create, Open, Unlink, Mkdir, Rmdir, Link, Move, Ls, Close, Fstat, Read, Write, Seek, Answer, Outcome, Promise}
-use Rattle.meaning.specs.Determined.{same_outcome}
-use Rattle.meaning.specs.Answers.{reported, opened, counted, sought, stat_of, space_of, reported-one, opened_one, counted-one, sought-one, stat_one, space-one}
+use Rattle.meaning.proofs.Determined.{same_outcome}
+use Rattle.meaning.specs.Answers.{reported, opened, counted, sought, stat_of, space_of}
+use Rattle.meaning.proofs.AnswerLaws.{reported-one, opened_one, counted-one, sought-one, stat_one, space-one}
 
 -- what a run of a call leaves to be seen, its answer as the code gives it
 pub record Seen (A : Type 0) : Type 0 where
