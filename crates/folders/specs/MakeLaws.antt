@@ -14,7 +14,7 @@ use Rattle.soundness.specs.Well.{Well}
 use Rattle.soundness.specs.WellFacts.{directory-form}
 use Rattle.lookup.specs.Filed.{sound_well}
 use Rattle.keeping.specs.Sure.{Sure, Good}
-use Rattle.keeping.specs.NewFiles.{good-mkdir}
+use Rattle.keeping.proofs.NewFiles.{good-mkdir}
 use Rattle.naming.specs.At.{At}
 use Rattle.naming.specs.declared.Located.{Located}
 use Rattle.recording.specs.Recording.{record_of}

@@ -18,8 +18,8 @@ use Rattle.soundness.specs.WellFacts.{directory-form}
 use Rattle.lookup.specs.Filed.{sound_well}
 use Rattle.trees.specs.Standing.{Standing, some_syllable}
 use Rattle.keeping.specs.Sure.{Sure, Good}
-use Rattle.keeping.specs.Named.{other_standing}
-use Rattle.keeping.specs.OnNames.{good-rmdir}
+use Rattle.keeping.proofs.Named.{other_standing}
+use Rattle.keeping.proofs.OnNames.{good-rmdir}
 use Rattle.naming.specs.At.{At, not_missing}
 use Rattle.naming.specs.declared.Located.{Located}
 use Rattle.placing.specs.Free.{sized}

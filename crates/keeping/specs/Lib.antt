@@ -5,14 +5,6 @@ pub mod RecordCount
 pub mod FileStep
 pub mod ChannelStep
 pub mod Sure
-pub mod Files
 pub mod OnChannels
-pub mod WriteClose
-pub mod Named
-pub mod OnNames
-pub mod NewFiles
 pub mod Prepared
-pub mod Calls
 pub mod Kept
-pub mod Proofs
-pub mod Moves

@@ -8,9 +8,5 @@ pub mod Places
 pub mod Counting
 pub mod Fits
 pub mod Resizing
-pub mod PutFile
-pub mod PutLayout
-pub mod PutChannel
 pub mod PutPrepared
 pub mod Room
-pub mod Putting

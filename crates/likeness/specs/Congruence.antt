@@ -14,7 +14,7 @@ use Rattle.meaning.specs.Store.{Store, Channel, in_use, is_directory, is_open, b
 use Rattle.meaning.specs.Result.{missing, nowhere, all_open, all_used}
 use Rattle.trees.specs.AfterFile as after
 use Rattle.trees.specs.Rewrite as trees
-use Rattle.trees.specs.Lookups.{named_cong}
+use Rattle.trees.proofs.Lookups.{named_cong}
 use Rattle.likeness.specs.Alike.{Listed}
 use Rattle.likeness.specs.Same.{SameStore}
 

@@ -3,9 +3,4 @@ pub mod Same
 pub mod Congruence
 pub mod Naming
 pub mod Calls
-pub mod Results
 pub mod Depths
-pub mod Stores
-pub mod Likeness
-pub mod Leaving
-pub mod Consequences

@@ -25,11 +25,11 @@ use Rattle.soundness.specs.WellFacts.{directory-form}
 use Rattle.lookup.specs.Filed.{sound_well}
 use Rattle.trees.specs.Standing.{Place, Standing, some_syllable}
 use Rattle.trees.specs.Naming.{with_name}
-use Rattle.trees.specs.Orphans.{orphan_replaced, orphan_again, orphan_none}
+use Rattle.trees.proofs.Orphans.{orphan_replaced, orphan_again, orphan_none}
 use Rattle.keeping.specs.Sure.{Sure, Sized}
 use Rattle.keeping.specs.OnChannels.{named_used}
-use Rattle.keeping.specs.OnNames.{link_sure}
-use Rattle.keeping.specs.Named.{plain_other, plain_place, other_standing, named_fits}
+use Rattle.keeping.proofs.OnNames.{link_sure}
+use Rattle.keeping.proofs.Named.{plain_other, plain_place, other_standing, named_fits}
 use Rattle.naming.specs.LocateLaws.{one_name, last-part, last_inside}
 use Rattle.naming.specs.At.{not_missing}
 use Rattle.recording.specs.Recording.{record_of}

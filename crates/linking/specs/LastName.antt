@@ -15,9 +15,10 @@ use Rattle.meaning.specs.NameCalls.{parent, record_for, naming}
 use Rattle.trees.specs.AfterFile.{held-file}
 use Rattle.trees.specs.Rewrite.{same_names, directory-same, held_same}
 use Rattle.trees.specs.Naming.{with_name, without_name, naming-rewrites, names-named}
-use Rattle.trees.specs.LetGo.{let_going_lem, let_go_directory, let_go_file}
-use Rattle.trees.specs.Linked.{linked}
-use Rattle.trees.specs.Orphans.{names_less, orphan_unlinked}
+use Rattle.trees.proofs.LetGo.{let_going_lem, let_go_directory, let_go_file}
+use Rattle.trees.proofs.Linked.{linked}
+use Rattle.trees.specs.Orphans.{names_less}
+use Rattle.trees.proofs.Orphans.{orphan_unlinked}
 use Rattle.linking.specs.Link.{lone, Accepted}
 use Rattle.linking.specs.Act.{link_changes, last_goes}
 use Rattle.linking.specs.ActLaws as L

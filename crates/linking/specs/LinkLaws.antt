@@ -21,7 +21,7 @@ use Rattle.lookup.specs.Filed.{filed, sound_well, shelves, directory-seen}
 use Rattle.trees.specs.Standing.{Place, some_syllable}
 use Rattle.keeping.specs.Sure.{Sized}
 use Rattle.keeping.specs.OnChannels.{named_used}
-use Rattle.keeping.specs.Named.{plain_other, plain_place}
+use Rattle.keeping.proofs.Named.{plain_other, plain_place}
 use Rattle.naming.specs.Located.{InPlace, Recorded}
 use Rattle.naming.specs.At.{is_missing, not_missing, file-directory}
 use Rattle.naming.specs.declared.Located.{Located}

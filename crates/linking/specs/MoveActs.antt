@@ -13,12 +13,12 @@ use Rattle.meaning.specs.declared.Report.{Report}
 use Rattle.meaning.specs.declared.Report.TheVariants.{NotAStore}
 use Rattle.layout.specs.Layout.{Holding, sound_layout}
 use Rattle.layout.specs.Fits.{FileFits}
-use Rattle.layout.specs.Putting.{put_all_lem}
+use Rattle.layout.proofs.Putting.{put_all_lem}
 use Rattle.soundness.specs.Use.{used}
 use Rattle.soundness.specs.WellFacts.{directory-form}
 use Rattle.trees.specs.Naming.{without_name}
-use Rattle.keeping.specs.Named.{unnamed_fits}
-use Rattle.keeping.specs.Moves.{unlink_done}
+use Rattle.keeping.proofs.Named.{unnamed_fits}
+use Rattle.keeping.proofs.Moves.{unlink_done}
 use Rattle.linking.specs.Link.{Accepted}
 use Rattle.linking.specs.Act.{link_changes, drop_changes, freed, last_goes, Droppable}
 use Rattle.linking.specs.Move.{Movable}

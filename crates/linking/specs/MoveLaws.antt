@@ -13,13 +13,13 @@ use Rattle.meaning.specs.NameCalls.{parent, record_for, naming}
 use Rattle.soundness.specs.Well.{Well}
 use Rattle.directories.specs.EntryLaws.{count_with, entry-same, entry_other}
 use Rattle.trees.specs.Rewrite.{own_bytes, other-file}
-use Rattle.trees.specs.Lookups.{parent-same}
+use Rattle.trees.proofs.Lookups.{parent-same}
 use Rattle.trees.specs.Standing.{Place, Standing, some_syllable, missing_some}
 use Rattle.trees.specs.Naming.{with_name, naming-entry, naming-rewrites, naming_keeps}
-use Rattle.trees.specs.LetGo.{let_go_named, let_go_file}
-use Rattle.trees.specs.Linked.{linked, linked_is, linked-directory, linked-named, linked_there}
+use Rattle.trees.proofs.LetGo.{let_go_named, let_go_file}
+use Rattle.trees.proofs.Linked.{linked, linked_is, linked-directory, linked-named, linked_there}
 use Rattle.keeping.specs.Sure.{Sized, sized_after}
-use Rattle.keeping.specs.Named.{plain_other, other_standing}
+use Rattle.keeping.proofs.Named.{plain_other, other_standing}
 use Rattle.linking.specs.Link.{Accepted}
 use Rattle.linking.specs.Act.{link_changes}
 use Rattle.linking.specs.ActLaws as L

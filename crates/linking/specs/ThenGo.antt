@@ -6,7 +6,7 @@ use Rattle.meaning.specs.Store.{Store, file}
 use Rattle.meaning.specs.Tables.{Tables, tables, store_of, file_count, put, put_all}
 use Rattle.meaning.specs.NameCalls.{rewritten}
 use Rattle.layout.specs.Layout.{Layout}
-use Rattle.layout.specs.Putting.{put_store, put_layout}
+use Rattle.layout.proofs.Putting.{put_store, put_layout}
 use Rattle.layout.specs.Room.{same-files}
 use Rattle.files.specs.FileLaws.{clearable}
 use Rattle.recording.specs.Recording.{Rewritable}

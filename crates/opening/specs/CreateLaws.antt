@@ -14,7 +14,7 @@ use Rattle.soundness.specs.Use.{used}
 use Rattle.lookup.specs.Filed.{sound_well}
 use Rattle.trees.specs.Standing.{Place}
 use Rattle.keeping.specs.OnChannels.{named_used}
-use Rattle.keeping.specs.Named.{named_fits}
+use Rattle.keeping.proofs.Named.{named_fits}
 use Rattle.files.specs.Files.{Clearable}
 use Rattle.naming.specs.At.{At, not_missing}
 use Rattle.naming.specs.declared.Located.{Located}

@@ -15,7 +15,7 @@ use Rattle.tables.specs.Found.{found-file, no_file_lem, found_channel, no_channe
 use Rattle.tables.specs.StoreLaws.{free_channel_lem, free_file_lem}
 use Rattle.layout.specs.Layout.{sound_layout}
 use Rattle.keeping.specs.Sure.{Sized}
-use Rattle.keeping.specs.Proofs as K
+use Rattle.keeping.proofs.Proofs as K
 
 -- how many files tables have room for
 pub sized : (t : Tables) → sound t ≡ true → Sized (store_of t)

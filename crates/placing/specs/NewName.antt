@@ -8,7 +8,7 @@ use Rattle.meaning.specs.NameCalls.{record_for, rewritten, naming, if_naming_fit
 use Rattle.tables.specs.Searches.{free_block_count}
 use Rattle.lookup.specs.Filed.{sound_well}
 use Rattle.trees.specs.Standing.{Vacant, some_syllable}
-use Rattle.keeping.specs.Named.{new_vacant}
+use Rattle.keeping.proofs.Named.{new_vacant}
 use Rattle.naming.specs.At.{At, is_missing}
 use Rattle.naming.specs.declared.Located.{Located}
 use Rattle.recording.specs.Fit.{if_fits_in}

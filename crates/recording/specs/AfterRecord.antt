@@ -7,7 +7,7 @@ use Rattle.meaning.specs.NameCalls.{rewritten}
 use Rattle.meaning.specs.Tables.{Tables, tables, store_of, file_count, put}
 use Rattle.layout.specs.Layout.{Layout}
 use Rattle.layout.specs.Room.{same-files}
-use Rattle.layout.specs.Putting.{put_store, put_layout}
+use Rattle.layout.proofs.Putting.{put_store, put_layout}
 use Rattle.files.specs.Files.{Clearable}
 use Rattle.recording.specs.Recording.{Rewritable}
 

@@ -9,7 +9,7 @@ use Rattle.records.specs.RowLaws.{some_lowest, lowest_hit}
 use Rattle.records.specs.Tests.{tested, same_or_not, not_so}
 use Rattle.meaning.specs.Store.{Store, file, after, after_all, no_file, root, in_use, is_directory, is_open, named, names, held, is_orphan, let_go}
 use Rattle.soundness.specs.Use.{used, directory-kind}
-use Rattle.trees.specs.LetGo.{Orphan, let_going_lem}
+use Rattle.trees.proofs.LetGo.{Orphan, let_going_lem}
 use Rattle.keeping.specs.References.{not_held}
 use Rattle.source.specs.Sets.{◌∈dom◌, ◌⩤◌, the}
 use Rattle.source.specs.Channels.{CHAN}

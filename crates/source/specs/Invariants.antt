@@ -14,11 +14,11 @@ use Rattle.soundness.specs.WellFacts.{directory-form, blank_file, root-directory
 use Rattle.lookup.specs.Filed.{sound_well}
 use Rattle.lookup.specs.Walk.{named-last, named-walk}
 use Rattle.trees.specs.Records.{in_some, in_found}
-use Rattle.trees.specs.Lookups.{within-directory, within_is}
-use Rattle.trees.specs.Depth.{named-depth}
+use Rattle.trees.proofs.Lookups.{within-directory, within_is}
+use Rattle.trees.proofs.Depth.{named-depth}
 use Rattle.trees.specs.Standing.{named_empty}
 use Rattle.keeping.specs.Sure.{sized_after}
-use Rattle.keeping.specs.Calls.{good, sure}
+use Rattle.keeping.proofs.Calls.{good, sure}
 use Rattle.source.specs.Sets.{◌∈dom◌}
 use Rattle.source.specs.Channels.{CHAN}
 use Rattle.source.specs.Naming.{NAME, NS, applied, dirstored}

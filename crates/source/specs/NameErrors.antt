@@ -11,7 +11,7 @@ use Rattle.meaning.specs.NameCalls.{create, open', link, unlink, move, ls, if_na
 use Rattle.meaning.specs.Run.{meaning, number_of}
 use Rattle.meaning.specs.declared.Report.{Report}
 use Rattle.meaning.specs.declared.Report.TheVariants.{Ok, NoSuchName, NoFreeCids, IsDirectory, NotDirectory, NoFreeFids, NoRoom, TooBig, OutShort}
-use Rattle.keeping.specs.Moves.{move_refused, link_refused}
+use Rattle.keeping.proofs.Moves.{move_refused, link_refused}
 use Rattle.source.specs.Sets.{◌∈dom◌}
 use Rattle.source.specs.Naming.{NAME}
 use Rattle.source.specs.View.{view}

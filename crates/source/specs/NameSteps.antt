@@ -17,7 +17,7 @@ use Rattle.trees.specs.Lookups.{KeepsDirectories}
 use Rattle.trees.specs.Entries.{naming_syllable}
 use Rattle.trees.specs.Standing.{Place}
 use Rattle.trees.specs.Naming.{with_name, without_name, blank_entry, naming-entry, naming_keeps, unnaming_keeps}
-use Rattle.trees.specs.Given.{named-given, named_beside, named-taken, named-left}
+use Rattle.trees.proofs.Given.{named-given, named_beside, named-taken, named-left}
 use Rattle.source.specs.Sets.{◌∈dom◌, ◌⊕◌, ◌⩤◌, ◌⟼◌, the_name}
 use Rattle.source.specs.Naming.{NAME}
 use Rattle.source.specs.View.{numbered, view}

@@ -16,7 +16,7 @@ use Rattle.meaning.specs.Store.{Store, root, is_directory, within, named, front,
 use Rattle.soundness.specs.Use.{directory_used}
 use Rattle.lookup.specs.Walk.{named-last}
 use Rattle.trees.specs.Records.{named_has, in_found, in_some}
-use Rattle.trees.specs.Lookups.{within-directory, within_is}
+use Rattle.trees.proofs.Lookups.{within-directory, within_is}
 use Rattle.trees.specs.Standing.{some_syllable}
 use Rattle.trees.specs.Rewrite.{given_by}
 use Rattle.keeping.specs.References.{record_named_lem}

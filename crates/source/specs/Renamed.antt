@@ -12,7 +12,8 @@ use Rattle.soundness.specs.WellFacts.{blank_file}
 use Rattle.lookup.specs.Walk.{named-last, front-last}
 use Rattle.trees.specs.Records.{named_has, in_found, in_some, named_own, named_kept}
 use Rattle.trees.specs.Rewrite.{Rewriting, with_record, own_bytes, other-file, directory-same}
-use Rattle.trees.specs.Lookups.{KeepsDirectories, within-directory, within_is, named-same}
+use Rattle.trees.specs.Lookups.{KeepsDirectories}
+use Rattle.trees.proofs.Lookups.{within-directory, within_is, named-same}
 use Rattle.trees.specs.Standing.{named_empty}
 use Rattle.source.specs.Naming.{NAME}
 use Rattle.source.specs.Tree.{found_by, Tree, well_tree, one_name}

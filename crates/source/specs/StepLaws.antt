@@ -9,7 +9,7 @@ use Rattle.records.specs.Tests.{and_false, same_or_not, not_so}
 use Rattle.meaning.specs.Store.{Store, File, Channel, file, channel, after, in_use, is_directory, is_open, named}
 use Rattle.soundness.specs.Use.{of_used, directory-kind}
 use Rattle.trees.specs.AfterFile.{file_changed, file-other}
-use Rattle.trees.specs.Lookups.{named_cong}
+use Rattle.trees.proofs.Lookups.{named_cong}
 use Rattle.source.specs.Sets.{◌⊕◌, ◌⩤◌, ◌⟼◌, the}
 use Rattle.source.specs.Naming.{NAME}
 use Rattle.source.specs.Filing.{ΞNS}

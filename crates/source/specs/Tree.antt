@@ -10,9 +10,9 @@ use Rattle.soundness.specs.Well.{Well}
 use Rattle.soundness.specs.WellFacts.{blank_file, root-depth}
 use Rattle.lookup.specs.Walk.{named_more, front-last}
 use Rattle.trees.specs.Records.{named_is, in_found}
-use Rattle.trees.specs.Lookups.{within_is, named_cong}
+use Rattle.trees.proofs.Lookups.{within_is, named_cong}
 use Rattle.trees.specs.Standing.{named_empty}
-use Rattle.trees.specs.Depth.{named-depth}
+use Rattle.trees.proofs.Depth.{named-depth}
 use Rattle.source.specs.Naming.{NAME}
 use Rattle.source.specs.NamedBy.{Names, its_record, record_of_lem, one-directory, one_record}
 

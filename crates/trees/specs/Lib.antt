@@ -4,9 +4,5 @@ pub mod Rewrite
 pub mod Entries
 pub mod Standing
 pub mod Lookups
-pub mod Depth
 pub mod Naming
-pub mod Given
-pub mod LetGo
 pub mod Orphans
-pub mod Linked

@@ -16,9 +16,9 @@ use Rattle.soundness.specs.WellFacts.{directory-form}
 use Rattle.lookup.specs.Filed.{sound_well}
 use Rattle.trees.specs.Standing.{Standing, some_syllable}
 use Rattle.trees.specs.Naming.{without_name}
-use Rattle.trees.specs.Orphans.{orphan_unlinked}
+use Rattle.trees.proofs.Orphans.{orphan_unlinked}
 use Rattle.keeping.specs.Sure.{Sized}
-use Rattle.keeping.specs.Named.{plain_other, other_standing, unnamed_fits}
+use Rattle.keeping.proofs.Named.{plain_other, other_standing, unnamed_fits}
 use Rattle.naming.specs.At.{At, file-directory, not_missing}
 use Rattle.naming.specs.declared.Located.{Located}
 use Rattle.counts.specs.Gone.{gone_with}

@@ -1,5 +1,5 @@
 -- The call keeps its promise, and its answer is told.
-use Rattle.filestore.specs.TellsLaws.{kept_told}
+use Rattle.filestore.proofs.TellsLaws.{kept_told}
 use Rattle.filestore.proofs.filestore_prepare.Goals as goal
 
 pub returns : goal.returns

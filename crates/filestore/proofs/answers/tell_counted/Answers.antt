@@ -8,7 +8,7 @@ use Rattle.meaning.specs.declared.Counted.{Counted}
 use Rattle.meaning.specs.declared.Counted.TheVariants.{Of, Refused}
 use Rattle.filestore.specs.declared.Told.{Told}
 use Rattle.filestore.specs.Tells.{four, in_four, alone}
-use Rattle.filestore.specs.TellsLaws.{one_told, refusal-told}
+use Rattle.filestore.proofs.TellsLaws.{one_told, refusal-told}
 use Rattle.filestore.proofs.answers.tell_counted.Goals as goal
 
 module _ (answer : Counted) where

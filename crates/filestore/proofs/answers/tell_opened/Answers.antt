@@ -8,7 +8,7 @@ use Rattle.meaning.specs.declared.Opened.{Opened}
 use Rattle.meaning.specs.declared.Opened.TheVariants.{At, Refused}
 use Rattle.filestore.specs.declared.Told.{Told}
 use Rattle.filestore.specs.Tells.{four, in_four, alone}
-use Rattle.filestore.specs.TellsLaws.{one_told, refusal-told}
+use Rattle.filestore.proofs.TellsLaws.{one_told, refusal-told}
 use Rattle.filestore.proofs.answers.tell_opened.Goals as goal
 
 module _ (answer : Opened) where

@@ -8,7 +8,7 @@ use Rattle.meaning.specs.declared.Sought.{Sought}
 use Rattle.meaning.specs.declared.Sought.TheVariants.{At, Refused}
 use Rattle.filestore.specs.declared.Told.{Told}
 use Rattle.filestore.specs.Tells.{four, in_four, alone}
-use Rattle.filestore.specs.TellsLaws.{one_told, refusal-told}
+use Rattle.filestore.proofs.TellsLaws.{one_told, refusal-told}
 use Rattle.filestore.proofs.answers.tell_sought.Goals as goal
 
 module _ (answer : Sought) where

@@ -8,7 +8,7 @@ use Rattle.meaning.specs.declared.Space.{Space}
 use Rattle.meaning.specs.declared.Space.TheVariants.{Of, Refused}
 use Rattle.filestore.specs.declared.Told.{Told}
 use Rattle.filestore.specs.Tells.{four, in_four, alone}
-use Rattle.filestore.specs.TellsLaws.{three_told, refusal-told}
+use Rattle.filestore.proofs.TellsLaws.{three_told, refusal-told}
 use Rattle.filestore.proofs.answers.tell_space.Goals as goal
 
 module _ (answer : Space) where

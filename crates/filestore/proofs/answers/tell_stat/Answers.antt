@@ -9,7 +9,7 @@ use Rattle.meaning.specs.declared.Stat.{Stat}
 use Rattle.meaning.specs.declared.Stat.TheVariants.{Of, Refused}
 use Rattle.filestore.specs.declared.Told.{Told}
 use Rattle.filestore.specs.Tells.{four, in_four, alone}
-use Rattle.filestore.specs.TellsLaws.{three_told, refusal-told}
+use Rattle.filestore.proofs.TellsLaws.{three_told, refusal-told}
 use Rattle.filestore.proofs.answers.tell_stat.Goals as goal
 
 module _ (answer : Stat) where

@@ -1,0 +1,10 @@
+pub mod RecordStep
+pub mod FileStep
+pub mod Files
+pub mod WriteClose
+pub mod Named
+pub mod OnNames
+pub mod NewFiles
+pub mod Calls
+pub mod Proofs
+pub mod Moves

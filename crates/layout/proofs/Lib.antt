@@ -1,0 +1,4 @@
+pub mod PutFile
+pub mod PutLayout
+pub mod PutChannel
+pub mod Putting

@@ -1,0 +1,5 @@
+pub mod Results
+pub mod Stores
+pub mod Likeness
+pub mod Leaving
+pub mod Consequences
