@@ -1,7 +1,7 @@
 /*
  * The file store for C and C++: fifteen calls over four tables that the host lends.
  *
- * Link with target/staticlib/libfilestore.a (`rt staticlib filestore`). A call
+ * Link with target/staticlib/libfilestore.a (`host/library`). A call
  * keeps nothing, allocates nothing and uses no memory but its stack and what it
  * is lent. Tables may hold any bytes: a call tests that they are a sound store
  * before anything else. Lent tables, names, data and buffers must not overlap,

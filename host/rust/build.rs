@@ -1,5 +1,5 @@
 //! Links libfilestore.a: from FILESTORE_LIB_DIR where that is set, else from
-//! the repository's target/staticlib, where `rt staticlib filestore` writes it.
+//! the repository's target/staticlib, where `host/library` writes it.
 
 use std::env;
 use std::path::PathBuf;
@@ -17,7 +17,7 @@ fn main() {
     println!("cargo:rerun-if-changed={}", archive.display());
     assert!(
         archive.exists(),
-        "no {}: run `rt staticlib filestore` first",
+        "no {}: run `host/library` first",
         archive.display()
     );
     println!("cargo:rustc-link-search=native={}", dir.display());

@@ -1,7 +1,7 @@
 //! The proved text program against the model, line for line.
 //!
-//! The program is `target/bin/filestore_text` of the repository, which
-//! `rt check filestore_text` leaves behind.
+//! The program is `crates/filestore_text/out/filestore_text` of the
+//! repository, which `./filestore` builds.
 
 use std::fs::File;
 use std::io::{Read, Seek, Write};
@@ -19,10 +19,11 @@ use model::text::serve;
 const PIECE: usize = 4_096;
 
 fn start(input: Stdio, output: Stdio) -> Child {
-    let program = PathBuf::from(env!("CARGO_MANIFEST_DIR")).join("../../target/bin/filestore_text");
+    let program = PathBuf::from(env!("CARGO_MANIFEST_DIR"))
+        .join("../../crates/filestore_text/out/filestore_text");
     assert!(
         program.exists(),
-        "no program: run `rt check filestore_text` first"
+        "no program: run `./filestore </dev/null` first"
     );
     Command::new(program)
         .stdin(input)
