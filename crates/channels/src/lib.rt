@@ -169,7 +169,7 @@ fn further(position: u32, n: usize) -> u32
     (position as usize + n) as u32
 }
 
-// The position moves by a count of bytes, and the file stays. What takes a channel by reference is walked by hand, so it is thin.
+// The position moves by a count of bytes, and the file stays.
 pub fn move_by(channel: &mut ChannelRecord, n: usize)
     requires { channel.old.position + n < 4294967296 }
     ensures { channel.new ≡ moved_by channel.old n }

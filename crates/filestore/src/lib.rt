@@ -1,6 +1,7 @@
 // The calls as programs in other languages make them. Each makes its call and tells the answer as four numbers; nothing is decided here.
 // Above each stands what it answers after its report.
 #![tactic(auto)]
+
 mod answers;
 
 ghost use Rattle.std.specs.Prelude.{length};

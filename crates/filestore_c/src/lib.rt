@@ -1,5 +1,6 @@
 // The exports of the static library, for programs in other languages: each is the call of `filestore` with its name, and keeps its contract.
 #![tactic(auto)]
+
 ghost use Rattle.std.specs.Prelude.{length};
 ghost use Rattle.meaning.specs.Tables.{tables};
 ghost use Rattle.meaning.specs.Run.{entered, left, Call};
@@ -74,7 +75,14 @@ pub extern "C" fn filestore_read(
 ) -> Told
     ensures { TellsInto (Call.Read c (length buffer.old)) (tables blocks.now block_records.now file_records.now channel_records.old) (tables blocks.now block_records.now file_records.now channel_records.new) buffer.old buffer.new result }
 {
-    filestore::filestore_read(blocks, block_records, file_records, channel_records, c, buffer)
+    filestore::filestore_read(
+        blocks,
+        block_records,
+        file_records,
+        channel_records,
+        c,
+        buffer,
+    )
 }
 
 // The count of bytes written.
@@ -89,7 +97,14 @@ pub extern "C" fn filestore_write(
 ) -> Told
     ensures { Tells (Call.Write c «data».now) (entered blocks block_records file_records channel_records) (left blocks block_records file_records channel_records) result }
 {
-    filestore::filestore_write(blocks, block_records, file_records, channel_records, c, data)
+    filestore::filestore_write(
+        blocks,
+        block_records,
+        file_records,
+        channel_records,
+        c,
+        data,
+    )
 }
 
 // The new position.
@@ -105,7 +120,15 @@ pub extern "C" fn filestore_seek(
 ) -> Told
     ensures { Tells (Call.Seek c mode n) (tables blocks.now block_records.now file_records.now channel_records.old) (tables blocks.now block_records.now file_records.now channel_records.new) result }
 {
-    filestore::filestore_seek(blocks, block_records, file_records, channel_records, c, mode, n)
+    filestore::filestore_seek(
+        blocks,
+        block_records,
+        file_records,
+        channel_records,
+        c,
+        mode,
+        n,
+    )
 }
 
 // Length, file number, kind.
@@ -134,7 +157,14 @@ pub extern "C" fn filestore_link(
 ) -> Told
     ensures { Tells (Call.Link old.now new.now) (tables blocks.old block_records.old file_records.old channel_records.now) (tables blocks.new block_records.new file_records.new channel_records.now) result }
 {
-    filestore::filestore_link(blocks, block_records, file_records, channel_records, old, new)
+    filestore::filestore_link(
+        blocks,
+        block_records,
+        file_records,
+        channel_records,
+        old,
+        new,
+    )
 }
 
 // Nothing.
@@ -163,7 +193,14 @@ pub extern "C" fn filestore_move(
 ) -> Told
     ensures { Tells (Call.Move old.now new.now) (tables blocks.old block_records.old file_records.old channel_records.now) (tables blocks.new block_records.new file_records.new channel_records.now) result }
 {
-    filestore::filestore_move(blocks, block_records, file_records, channel_records, old, new)
+    filestore::filestore_move(
+        blocks,
+        block_records,
+        file_records,
+        channel_records,
+        old,
+        new,
+    )
 }
 
 // The count of names.
@@ -178,7 +215,14 @@ pub extern "C" fn filestore_ls(
 ) -> Told
     ensures { TellsInto (Call.Ls name.now (length buffer.old)) (tables blocks.now block_records.now file_records.now channel_records.now) (tables blocks.now block_records.now file_records.now channel_records.now) buffer.old buffer.new result }
 {
-    filestore::filestore_ls(blocks, block_records, file_records, channel_records, name, buffer)
+    filestore::filestore_ls(
+        blocks,
+        block_records,
+        file_records,
+        channel_records,
+        name,
+        buffer,
+    )
 }
 
 // Nothing.

@@ -1,5 +1,6 @@
 // The calls that make and remove directories.
 #![tactic(auto)]
+
 ghost use Rattle.meaning.specs.Tables.{tables};
 ghost use Rattle.meaning.specs.Run.{Keeps, Call};
 ghost use Rattle.meaning.specs.Answers.{reported};

@@ -7,8 +7,8 @@ use Rattle.records.specs.Rows.{every}
 use Rattle.records.specs.Numbers.{one, zeros}
 use Rattle.records.specs.Tests.{same_or_not}
 use Rattle.meaning.specs.File.{longest}
-use Rattle.meaning.specs.Name.{Entry, is_syllable, same, entry_in, is_written, blank_record, record_count, record_at, is_blank, entry_at, with_entry}
-use Rattle.meaning.specs.Store.{Store, File, after, root, in_use, is_directory}
+use Rattle.meaning.specs.Name.{Entry, is_syllable, same, entry_in, blank_record, record_count, record_at, is_blank, entry_at, with_entry}
+use Rattle.meaning.specs.Store.{Store, File, after, root, is_directory}
 use Rattle.names.specs.SameLaws.{not_same}
 use Rattle.directories.specs.EntryLaws.{length_with, count_with, record_same, record_other, entry-same, entry_other, blank_same, blank_other}
 use Rattle.soundness.specs.Use.{directory_used, directory-kind}
@@ -18,7 +18,7 @@ use Rattle.trees.specs.Rewrite.{Rewriting, with_record, own_bytes, other-file, k
 use Rattle.trees.specs.Entries.{not_empty, naming_syllable}
 use Rattle.trees.specs.Naming.{blank_entry}
 use Rattle.keeping.specs.Shape.{Shape, channel_moved, record_moved}
-use Rattle.keeping.specs.RecordStep.{Names, NewRecord, as_blanked, as_named}
+use Rattle.keeping.specs.RecordStep.{NewRecord, as_blanked, as_named}
 
 blank_zeros : zeros blank_record 0 16 ≡ true
 unfolding zeros every one

@@ -1,23 +1,8 @@
 -- What a record of a directory may be written as.
-use Rattle.std.specs.Prelude.{ℕ, suc, ◌+◌, ◌≤◌, ◌<◌, max, ◌≡◌, refl, ◌≢◌, true, false, length}
-use Rattle.std.proofs.Math.Path.{ap}
-use Rattle.std.proofs.Common.{sym, ◌∙◌, ⊎_elim, true≢false, arith}
-use mathlib.Core.List.{List, []}
-use Rattle.records.specs.Rows.{every}
-use Rattle.records.specs.Numbers.{one, zeros}
-use Rattle.records.specs.Tests.{same_or_not}
-use Rattle.meaning.specs.File.{longest}
-use Rattle.meaning.specs.Name.{Entry, is_syllable, same, entry_in, is_written, blank_record, record_count, record_at, is_blank, entry_at, with_entry}
-use Rattle.meaning.specs.Store.{Store, File, after, root, in_use, is_directory}
-use Rattle.names.specs.SameLaws.{not_same}
-use Rattle.directories.specs.EntryLaws.{length_with, count_with, record_same, record_other, entry-same, entry_other, blank_same, blank_other}
-use Rattle.soundness.specs.Use.{directory_used, directory-kind}
-use Rattle.soundness.specs.Well.{FileForm, DirectoryFile, as_directory_lem, RecordForm, as_blank, as_naming}
-use Rattle.soundness.specs.WellFacts.{form-directory}
-use Rattle.trees.specs.Rewrite.{Rewriting, with_record, own_bytes, other-file, kind-same, depth_same, use_same, directory-same}
-use Rattle.trees.specs.Entries.{not_empty, naming_syllable}
-use Rattle.trees.specs.Naming.{blank_entry}
-use Rattle.keeping.specs.Shape.{Shape, channel_moved, record_moved}
+use Rattle.std.specs.Prelude.{ℕ, ◌+◌, ◌<◌, ◌≡◌, ◌≢◌, true}
+use mathlib.Core.List.{List}
+use Rattle.meaning.specs.Name.{entry_in, is_written, blank_record, record_count, entry_at}
+use Rattle.meaning.specs.Store.{Store, root, in_use, is_directory}
 
 -- r names a file in use that is not the root, by a name that no other record of d has; a directory one deeper than d
 pub record Names (s : Store) (d i : ℕ) (r : List ℕ) : Type 0 where

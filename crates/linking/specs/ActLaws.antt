@@ -1,11 +1,10 @@
 -- An accepted link: what its act asks holds, and the changes of the plan are those of link.
-use Rattle.std.specs.Prelude.{ℕ, ◌-◌, ◌<◌, ◌≢◌, Bool, ◌&&◌, length, eqb}
+use Rattle.std.specs.Prelude.{ℕ, ◌<◌, ◌≢◌, Bool, ◌&&◌, length, eqb}
 use Rattle.std.proofs.Math.Path.{◌≡◌, refl, sym, ap}
 use Rattle.std.proofs.Common.{subst, ◌∙◌, true≢false}
 use Rattle.std.proofs.Math.Logic.{⊎_elim}
 use mathlib.Core.List.{List, [], ◌∷◌}
 use Rattle.std.proofs.Math.Bool.{true, false, not, and-true}
-use Rattle.std.proofs.Math.Option.{some}
 use native.Mathlib.Omega.{arith}
 use borrow.Author.Tests.{eq-eqb, ne_eqb}
 use Rattle.records.specs.Tests.{same_or_not, and_false, and_left}

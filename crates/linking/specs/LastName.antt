@@ -1,5 +1,5 @@
 -- Whether the old name's file goes, where a move takes its name from the store that link leaves.
-use Rattle.std.specs.Prelude.{ℕ, ◌+◌, ◌≡◌, refl, ◌≢◌, List, Bool, true, false, ◌&&◌}
+use Rattle.std.specs.Prelude.{ℕ, ◌+◌, ◌≡◌, refl, ◌≢◌, List, Bool, ◌&&◌}
 use Rattle.std.proofs.Common.{sym, ◌∙◌, arith}
 use Rattle.std.proofs.Math.Path.{ap}
 use Rattle.std.proofs.Math.Logic.{⊎_elim}
@@ -9,7 +9,7 @@ use borrow.Author.Tests.{eq-eqb, ne_eqb}
 use Rattle.records.specs.Rows.{tally}
 use Rattle.records.specs.Tests.{same_or_not, and_false}
 use Rattle.meaning.specs.Name.{entry, written, names_in}
-use Rattle.meaning.specs.Store.{Store, File, file, after, after_all, is_directory, named, names, held, is_orphan, last}
+use Rattle.meaning.specs.Store.{Store, File, after, after_all, is_directory, named, names, held, is_orphan, last}
 use Rattle.meaning.specs.Tables.{Tables, store_of}
 use Rattle.meaning.specs.NameCalls.{parent, record_for, naming}
 use Rattle.trees.specs.AfterFile.{held-file}

@@ -5,11 +5,11 @@ use Rattle.std.proofs.Common.{◌∙◌, arith}
 use Rattle.std.proofs.Math.Logic.{⊎_elim}
 use Rattle.std.proofs.Math.Bool.{true}
 use Rattle.records.specs.Tests.{same_or_not}
-use Rattle.meaning.specs.Store.{Store, file, is_directory, named}
+use Rattle.meaning.specs.Store.{Store, is_directory, named}
 use Rattle.meaning.specs.Tables.{Tables, tables, store_of, file_count, file_length}
 use Rattle.meaning.specs.Sound.{sound}
 use Rattle.meaning.specs.Result.{Result, unless, missing, nowhere}
-use Rattle.meaning.specs.NameCalls.{parent, record_for, naming, if_naming_fits}
+use Rattle.meaning.specs.NameCalls.{record_for, naming, if_naming_fits}
 use Rattle.meaning.specs.Run.{Call, result_of}
 use Rattle.meaning.specs.declared.Report.{Report}
 use Rattle.meaning.specs.declared.Report.TheVariants.{NoSuchName, IsDirectory}

@@ -1,12 +1,12 @@
 -- The store that an accepted link leaves: the old name stands for its file as before, by the same record, so that a move can take it.
-use Rattle.std.specs.Prelude.{ℕ, ◌<◌, ◌≡◌, refl, ◌≢◌, List, true, false, length}
+use Rattle.std.specs.Prelude.{ℕ, ◌<◌, ◌≡◌, refl, ◌≢◌, List, false, length}
 use Rattle.std.proofs.Math.Path.{sym, ap, subst}
 use Rattle.std.proofs.Common.{◌∙◌, true≢false, arith}
 use Rattle.std.proofs.Math.Logic.{⊎_elim}
 use Rattle.records.specs.Tests.{same_or_not}
 use Rattle.std.proofs.Math.Option as O
 use Rattle.meaning.specs.Name.{syllables, Entry, entry, written, record_count, entry_at, with_entry}
-use Rattle.meaning.specs.Store.{Store, File, file, after_all, is_directory, named, last}
+use Rattle.meaning.specs.Store.{Store, File, after_all, is_directory, named, last}
 use Rattle.meaning.specs.Tables.{Tables, store_of}
 use Rattle.meaning.specs.Result.{missing}
 use Rattle.meaning.specs.NameCalls.{parent, record_for, naming}

@@ -1,5 +1,6 @@
 // The calls on two names.
 #![tactic(auto)]
+
 ghost use Rattle.std.specs.Prelude.{◌≡◌, true, not, ◌&&◌, ◌≤◌, eqb};
 ghost use Rattle.meaning.specs.Store.{is_directory};
 ghost use Rattle.meaning.specs.Tables.{tables, store_of, file_count};

@@ -1,5 +1,5 @@
 -- A directory of a sound store: what the block table gives is its count of names and its listing.
-use Rattle.std.specs.Prelude.{ℕ, zero, suc, ◌+◌, ◌-◌, ◌*◌, ◌/◌, ◌≤◌, ◌<◌, ◌≡◌, List, [], ◌++◌, true, length, take, drop}
+use Rattle.std.specs.Prelude.{ℕ, zero, suc, ◌+◌, ◌*◌, ◌/◌, ◌≤◌, ◌<◌, ◌≡◌, List, [], ◌++◌, true, length, take, drop}
 use Rattle.std.proofs.Math.Path.{refl, ap, sym}
 use Rattle.std.proofs.Common.{◌∙◌, append-nil, append_assoc, arith, length-take, length-drop, drop-drop, take-add, drop_at}
 use Rattle.std.proofs.Math.Bool.{not}

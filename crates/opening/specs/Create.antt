@@ -1,5 +1,5 @@
 -- Create: what its decision stands for.
-use Rattle.std.specs.Prelude.{ℕ, ◌-◌, ◌≤◌, ◌<◌, ◌≡◌, List, [], ◌∷◌, true, length}
+use Rattle.std.specs.Prelude.{ℕ, ◌≤◌, ◌<◌, ◌≡◌, List, [], ◌∷◌, true, length}
 use Rattle.meaning.specs.Name.{is_syllable}
 use Rattle.meaning.specs.Store.{file, channel, channel_to, ordinary}
 use Rattle.meaning.specs.NameCalls.{rewritten}

@@ -1,5 +1,6 @@
 // The calls that open a channel by a name.
 #![tactic(auto)]
+
 ghost use Rattle.meaning.specs.Tables.{tables};
 ghost use Rattle.meaning.specs.Run.{left, Keeps, Call, entered};
 ghost use Rattle.meaning.specs.Answers.{opened};

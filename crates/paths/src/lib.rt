@@ -1,4 +1,4 @@
-// Syllables are taken from the left, one at a time (01, "Names"). Whatever takes or makes the reader is thin and walked by hand; the work is in covered functions.
+// Syllables are taken from the left, one at a time (01, "Names"). Whatever takes or makes the reader is thin; the work is in the functions that it calls.
 #![tactic(auto)]
 
 ghost use Rattle.std.specs.Prelude.{◌≡◌};

@@ -1,5 +1,6 @@
 // A command carried out on the tables, and the line that is printed for it. Definitions are in specs/.
 #![tactic(auto)]
+
 mod no_argument;
 mod on_channels;
 mod on_names;

@@ -26,7 +26,7 @@
 -- 4.2 leaves out special files, pipes and permissions; so does 01. prepare, room, make directory and remove directory are 01's own.
 --
 -- That each call is its schema: ChannelStatements and NameStatements, of stores; OutcomeStatements, of every outcome that keeps the
--- promise. That the invariants hold: InvariantStatements. Proofs are in the other files.
+-- promise. That the invariants hold: InvariantStatements. Proofs are in the other files, here and in proofs/.
 pub mod Sets
 pub mod Files
 pub mod Channels

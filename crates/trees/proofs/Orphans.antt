@@ -14,13 +14,12 @@ use Rattle.records.specs.Tests.{same_or_not}
 use Rattle.meaning.specs.Name.{entry, written, blank_record}
 use Rattle.meaning.specs.Store.{Store, Channel, channel, after, no_channel, in_use, is_directory, named, names, held, is_orphan, last}
 use Rattle.meaning.specs.NameCalls.{parent, record_for, naming, unnaming}
-use Rattle.soundness.specs.Use.{used}
 use Rattle.soundness.specs.Well.{Well}
 use Rattle.soundness.specs.WellFacts.{ordinary-form}
 use Rattle.trees.specs.AfterFile.{channel_changed, channel_other}
 use Rattle.trees.specs.Rewrite.{Rewriting, with_record, kind-same, use_same, held_same}
 use Rattle.trees.specs.Standing.{Standing}
-use Rattle.trees.specs.Naming.{with_name, without_name, naming-rewrites, unnaming-rewrites, names-named, names_unnamed}
+use Rattle.trees.specs.Naming.{with_name, without_name, naming-rewrites, unnaming-rewrites}
 use Rattle.trees.specs.Orphans.{names_less, names_replaced, names_again}
 
 -- two numbers one apart

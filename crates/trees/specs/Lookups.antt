@@ -1,17 +1,9 @@
 -- A record of a directory may change so that every directory keeps its name.
-use Rattle.std.specs.Prelude.{ℕ, ◌<◌, ◌≡◌, ◌≢◌, Bool, true, false, length}
-use Rattle.std.proofs.Math.Path.{refl, ap}
-use Rattle.std.proofs.Common.{sym, ◌∙◌, ⊎_elim, true≢false, arith}
-use mathlib.Core.List.{List, [], ◌∷◌, reverse}
-use Rattle.records.specs.Tests.{same_or_not, not_so}
-use Rattle.meaning.specs.Name.{entry_in, record_count, is_blank, entry_at, record_named, in_directory, with_entry}
-use Rattle.meaning.specs.Store.{Store, is_directory, within, named_back, named, front, last}
-use Rattle.meaning.specs.NameCalls.{parent}
-use Rattle.lookup.specs.Walk.{named-last}
-use Rattle.soundness.specs.Use.{directory_used}
-use Rattle.soundness.specs.WellFacts.{blank_file}
-use Rattle.trees.specs.Records.{named_has, in_found, in_some, in_own, in_kept, in_gone}
-use Rattle.trees.specs.Rewrite.{Rewriting, with_record, own_bytes, other-file, directory-same}
+use Rattle.std.specs.Prelude.{ℕ, ◌<◌, ◌≡◌, ◌≢◌, false}
+use mathlib.Core.List.{List}
+use Rattle.meaning.specs.Name.{entry_in, record_count, is_blank, entry_at}
+use Rattle.meaning.specs.Store.{Store, is_directory}
+use Rattle.trees.specs.Rewrite.{Rewriting}
 
 -- it named no directory, and no other record has the name that it gets
 pub record KeepsDirectories (s : Store) (d i : ℕ) (r : List ℕ) : Type 0 where

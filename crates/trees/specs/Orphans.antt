@@ -1,26 +1,16 @@
 -- How many names a file has left where one is taken or given to another file.
 use Prim.Native.Nat.{ℕ, ◌+◌, ◌<◌}
-use Rattle.std.specs.Prelude.{◌≡◌, refl, ◌≢◌, List, false, ◌&&◌}
-use Rattle.std.proofs.Math.Path.{ap, sym}
-use Rattle.std.proofs.Common.{◌∙◌}
-use Rattle.std.proofs.Math.Logic.{⊎_elim}
-use Rattle.std.proofs.Math.Bool.{Bool, not}
+use Rattle.std.specs.Prelude.{◌≡◌, refl, ◌≢◌, List}
+use Rattle.std.proofs.Math.Path.{ap}
 use native.Mathlib.Omega.{arith}
-use Rattle.std.proofs.Math.Dec.{ltb, eqb}
-use borrow.Author.Tests.{eq-eqb, ne_eqb, lt-ltb, le-ltb}
-use Rattle.records.specs.Rows.{tally, how_many}
-use Rattle.records.specs.RowLaws.{how_many_update}
-use Rattle.records.specs.Tests.{same_or_not}
-use Rattle.meaning.specs.Name.{entry, written, blank_record}
-use Rattle.meaning.specs.Store.{Store, Channel, channel, after, no_channel, in_use, is_directory, named, names, held, is_orphan, last}
-use Rattle.meaning.specs.NameCalls.{parent, record_for, naming, unnaming}
+use Rattle.std.proofs.Math.Dec.{eqb}
+use borrow.Author.Tests.{eq-eqb, ne_eqb}
+use Rattle.records.specs.Rows.{tally}
+use Rattle.meaning.specs.Store.{Store, named, names}
 use Rattle.soundness.specs.Use.{used}
 use Rattle.soundness.specs.Well.{Well}
-use Rattle.soundness.specs.WellFacts.{ordinary-form}
-use Rattle.trees.specs.AfterFile.{channel_changed, channel_other}
-use Rattle.trees.specs.Rewrite.{Rewriting, with_record, kind-same, use_same, held_same}
 use Rattle.trees.specs.Standing.{Standing}
-use Rattle.trees.specs.Naming.{with_name, without_name, naming-rewrites, unnaming-rewrites, names-named, names_unnamed}
+use Rattle.trees.specs.Naming.{with_name, without_name, names-named, names_unnamed}
 
 own_tally : (g : ℕ) → tally (eqb g g) ≡ 1
 own_tally g = ap tally (eq-eqb g g refl)

@@ -1,5 +1,6 @@
 // The call that takes a name from its file.
 #![tactic(auto)]
+
 ghost use Rattle.meaning.specs.Tables.{tables};
 ghost use Rattle.meaning.specs.Run.{Keeps, Call};
 ghost use Rattle.meaning.specs.Answers.{reported};

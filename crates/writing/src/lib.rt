@@ -1,5 +1,6 @@
 // Writing on a channel.
 #![tactic(auto)]
+
 ghost use Rattle.std.specs.Prelude.{◌≡◌, ◌+◌, ◌-◌, ◌≤◌, max, length, ltb};
 ghost use Rattle.meaning.specs.Tables.{tables};
 ghost use Rattle.meaning.specs.File.{needed, longest};

@@ -1,5 +1,4 @@
 -- Each return is a case of what link gives on two well-written names, by the tests that led there.
-use Prim.Native.Nat.{◌-◌}
 use Rattle.linking.specs.LinkLaws.{no_names, no_old, old-directory, new-nowhere, new-directory, is_sound, in_place, here_directory, few-records, replaced_few, no_fit, accepted}
 use Rattle.linking.proofs.decide_link.Goals as goal
 
@@ -20,8 +19,11 @@ record_for-place-requires c = search (in_place _ _ _ _ _ _ _ c.find_names-names.
 
 pub record_fits-fit-requires : goal.record_fits-fit-requires
 record_fits-fit-requires c =
-    record { d_is_directory = search (here_directory _ _ _ _ _ _ _ c.find_names-names.ensures); length_in_bounds = few-records _ _ _ _ _ _ _ c.find_names-names.ensures _ _ c.in-Found.is c.if-f-eq0.false _ c.is_directory.ensures
-          c.if-is_directory.false _ c.is_nowhere.ensures c.if-is_nowhere.false _ c.is_directory-in-Found.ensures c.if-is_directory-2.false _ c.record_for-place.ensures }
+    record {
+      d_is_directory = search (here_directory _ _ _ _ _ _ _ c.find_names-names.ensures);
+      length_in_bounds = few-records _ _ _ _ _ _ _ c.find_names-names.ensures _ _ c.in-Found.is c.if-f-eq0.false _ c.is_directory.ensures
+          c.if-is_directory.false _ c.is_nowhere.ensures c.if-is_nowhere.false _ c.is_directory-in-Found.ensures c.if-is_directory-2.false _ c.record_for-place.ensures;
+    }
 
 pub is_lone-lone-requires : goal.is_lone-lone-requires
 is_lone-lone-requires c =

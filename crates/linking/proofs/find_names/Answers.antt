@@ -1,5 +1,5 @@
 -- The old name is judged first, and the new one where that is well written; then both are located.
-use Prim.Native.Nat.{ℕ, ◌-◌}
+use Prim.Native.Nat.{ℕ}
 use mathlib.Core.Path.{◌≡◌, sym, ◌∙◌}
 use mathlib.Core.List.{List}
 use Rattle.meaning.specs.Name.{syllables}

@@ -1,4 +1,3 @@
-use Prim.Native.Nat.{◌-◌}
 use native.Mathlib.Omega.{arith}
 use borrow.Author.Rules.{rules}
 use mathlib.Core.Path.{ap}
@@ -16,7 +15,7 @@ loop-j-preserved c =
       search rules,
       elim c.if-not-zeros_at.branch [ then-not-zeros_at w ↦ omega arith | else-not-zeros_at w ↦ omega arith ],
       elim c.if-not-zeros_at.branch [
-        then-not-zeros_at w ↦ run-counted _ _ _ _ so_far _ c.zeros_at.ensures _ (ap not w.if-not-zeros_at.true) w.names-is
+        | then-not-zeros_at w ↦ run-counted _ _ _ _ so_far _ c.zeros_at.ensures _ (ap not w.if-not-zeros_at.true) w.names-is
         | else-not-zeros_at w ↦ run_skipped _ _ _ _ so_far _ c.zeros_at.ensures _ (ap not w.if-not-zeros_at.false) w.names-is
       ],
     )

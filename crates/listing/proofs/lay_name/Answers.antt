@@ -1,5 +1,4 @@
 -- A blank record leaves the buffer; of another its 14 bytes are copied.
-use Prim.Native.Nat.{◌-◌}
 use native.Mathlib.Omega.{arith}
 use Rattle.listing.specs.RunLaws.{none_ends, none_laid, one-room, one_ends, one-laid}
 use Rattle.listing.proofs.lay_name.Goals as goal

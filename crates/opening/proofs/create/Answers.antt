@@ -1,6 +1,6 @@
 -- What is decided is done: a refusal leaves the tables; an existing file is emptied, a new one gets its name's record and its own;
 -- then the channel's record is put.
-use Prim.Native.Nat.{ℕ, ◌-◌, ◌≤◌, ◌<◌}
+use Prim.Native.Nat.{ℕ, ◌≤◌, ◌<◌}
 use mathlib.Core.Path.{◌≡◌, sym, ap, subst, ◌∙◌}
 use mathlib.Core.List.{List, [], ◌∷◌}
 use mathlib.Core.Bool.{true}

@@ -1,5 +1,5 @@
 -- What is decided is done: a refusal leaves the tables, and else the channel's record is put.
-use Prim.Native.Nat.{ℕ, ◌-◌, ◌<◌}
+use Prim.Native.Nat.{ℕ, ◌<◌}
 use mathlib.Core.Path.{◌≡◌, sym, ap, subst, ◌∙◌}
 use mathlib.Core.List.{List, [], ◌∷◌}
 use Rattle.records.specs.Numbers.{with_record}

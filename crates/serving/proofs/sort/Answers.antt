@@ -1,5 +1,5 @@
 -- Each command by its kind.
-use Prim.Native.Nat.{ℕ, ◌-◌}
+use Prim.Native.Nat.{ℕ}
 use mathlib.Core.Path.{◌≡◌, sym, ap}
 use Rattle.serving.specs.declared.Plain.TheVariants as P
 use Rattle.serving.specs.declared.OnChannel.TheVariants as H

@@ -1,5 +1,5 @@
 -- The answer's count.
-use Prim.Native.Nat.{ℕ, ◌-◌}
+use Prim.Native.Nat.{ℕ}
 use mathlib.Core.Path.{◌≡◌}
 use native.Mathlib.Omega.{arith}
 use Rattle.serving.specs.Serves.{shown_of}

@@ -1,5 +1,5 @@
 -- As many bytes are lent as are asked for.
-use Prim.Native.Nat.{ℕ, ◌-◌, ◌≤◌}
+use Prim.Native.Nat.{ℕ, ◌≤◌}
 use mathlib.Core.Path.{◌≡◌, sym}
 use mathlib.Core.List.{List}
 use mathlib.Core.Option.{some}

@@ -1,5 +1,5 @@
 -- 14 times the answer's count.
-use Prim.Native.Nat.{ℕ, ◌-◌, ◌*◌}
+use Prim.Native.Nat.{ℕ, ◌*◌}
 use mathlib.Core.Path.{◌≡◌}
 use Rattle.serving.specs.Serves.{shown_of}
 use Rattle.meaning.specs.declared.Counted.{Counted}
