@@ -1,2 +1,3 @@
 pub mod ReleaseSteps
 pub mod TakeSteps
+pub mod Parts

@@ -6,8 +6,7 @@ use mathlib.Core.List.{List}
 use mathlib.Core.Bool.{Bool, true, false, true≢false}
 use native.Mathlib.Omega.{arith}
 use lib.ListN.{length}
-use lib.Dec.{ltb}
-use borrow.Author.Tests.{ne_eqb, ltb-true, ltb-false}
+use borrow.Author.Tests.{ne_eqb}
 use Rattle.records.specs.Rows.{pick, tally, lowest}
 use Rattle.records.specs.Numbers.{with_record}
 use Rattle.records.specs.Tests.{same_or_not, lt_or_ge}
@@ -63,19 +62,19 @@ take_start all f i n =
 module _ (all : List ℕ) (f i n : ℕ) (records : List ℕ) (done b : ℕ) (taking : Taking all f i n records done b) where
   open taking use {same, so_far, none}
 
-  pub take_enough : ltb done n ≡ false → records ≡ taken_from all f i n
+  pub take_enough : n ≤ done → records ≡ taken_from all f i n
   unfolding taken_from
-  take_enough h = let e : n - done ≡ 0 = omega (arith, ltb-false done n h) in sym (so_far ∙ rw e)
+  take_enough h = let e : n - done ≡ 0 = omega arith in sym (so_far ∙ rw e)
 
   pub take-end : WholeRecords all → b ≤ block_count all → block_count all ≤ b → records ≡ taken_from all f i n
   take-end w l h = sym (so_far ∙ take_none f (n - done) (i + done) records (omega (arith, w.whole, not_below records b none (omega arith))))
 
-  module _ (small_file : f < 65536) (some : 0 < f) (small-place : i + n < 65536) (more : ltb done n ≡ true) (inside : b < block_count all)
+  module _ (small_file : f < 65536) (some : 0 < f) (small-place : i + n < 65536) (more : done < n) (inside : b < block_count all)
       (next : List ℕ) (r : ℕ) (took : Took records next f (i + done) b r) where
     left-to-take : (t : Bool) → is_free records b ≡ t → r ≡ tally t → next ≡ pick t (with_record 4 records b (block_record f (i + done))) records
         → taken_from all f i n ≡ taken_from next f (i + (done + r)) (n - (done + r))
     left-to-take true free count left =
-        let left_over : n - done ≡ suc (n - (done + r)) = omega (arith, ltb-true done n more) in
+        let left_over : n - done ≡ suc (n - (done + r)) = omega arith in
         let place : i + (done + r) ≡ suc (i + done) = omega arith in
         so_far ∙ rw (left_over, place, left)
         (take-one records f (i + done) (n - (done + r)) b (is_lowest records b none (omega arith) free))
@@ -90,24 +89,17 @@ module _ (all : List ℕ) (f i n : ℕ) (records : List ℕ) (done b : ℕ) (tak
     none_free : (t : Bool) → is_free records b ≡ t → next ≡ pick t (with_record 4 records b (block_record f (i + done))) records → NoneFree next (b + 1)
     none_free true free left k h =
         ⊎_elim
-        (λ (s : k ≡ b). rw (left, s, holds-written records b f (i + done) (omega arith) small_file (omega (arith, ltb-true done n more)) 0 0, ne_eqb f 0 (omega arith)))
+        (λ (s : k ≡ b). rw (left, s, holds-written records b f (i + done) (omega arith) small_file (omega arith) 0 0, ne_eqb f 0 (omega arith)))
         (λ (o : k ≢ b). rw (left, holds_kept records b f (i + done) k o 0 0) (none k (omega arith)))
         (same_or_not k b)
     none_free false free left k h =
         ⊎_elim (λ (s : k ≡ b). rw (left, s) free) (λ (o : k ≢ b). rw left (none k (omega arith))) (same_or_not k b)
 
-    pub take_next : Taking all f i n next (done + r) (b + 1)
+    pub take_next : (sum : ℕ) → sum ≡ done + r → Taking all f i n next sum (b + 1)
     unfolding taken_at
-    take_next =
+    take_next sum e =
         record {
           same = length-next (is_free records b) took.left;
-          so_far = left-to-take (is_free records b) refl took.count took.left;
+          so_far = rw e (left-to-take (is_free records b) refl took.count took.left);
           none = none_free (is_free records b) refl took.left;
         }
-
-pub took_one : (records next : List ℕ) (f i b r : ℕ) → Took records next f i b r → r ≤ 1
-took_one records next f i b r took = go (is_free records b) took.count
-  where
-    go : (t : Bool) → r ≡ tally t → r ≤ 1
-    go true e = omega arith
-    go false e = omega arith

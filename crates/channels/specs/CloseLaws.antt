@@ -1,14 +1,12 @@
 -- A channel closed: who holds its file then, and whether the file goes.
-use Rattle.std.specs.Prelude.{ℕ, ◌+◌, ◌<◌, ◌≡◌, ◌≢◌, [], ◌∷◌, false, not, ◌&&◌}
+use Rattle.std.specs.Prelude.{ℕ, zero, suc, ◌+◌, ◌<◌, ◌≡◌, ◌≢◌, [], ◌∷◌, Bool, true, false, not, ◌&&◌, ltb}
 use Rattle.std.proofs.Math.Path.{refl, ap}
 use Rattle.std.proofs.Common.{sym, ◌∙◌}
-use Rattle.std.proofs.Math.Bool.{true}
 use native.Mathlib.Omega.{arith}
 use Rattle.std.proofs.Math.Dec.{eqb}
-use borrow.Author.Tests.{lt-ltb, le-ltb, eq-eqb, ne_eqb}
+use borrow.Author.Tests.{lt-ltb, eq-eqb, ne_eqb}
 use Rattle.records.specs.Rows.{pick, tally, how_many}
 use Rattle.records.specs.RowLaws.{how_many_update}
-use Rattle.records.specs.Tests.{and_false}
 use Rattle.meaning.specs.Store.{Store, file, channel, after, no_file, no_channel, in_use, is_directory, names, held, is_orphan, let_go}
 
 -- how many channels hold file f
@@ -36,32 +34,26 @@ module _ (s : Store) (c : ℕ) where
         let is : tally (eqb (pick (eqb c c) no_channel (s.channel c)).file f) ≡ 0 = rw (eq-eqb c c refl, ne_eqb 0 f (λ e. some (sym e))) in
         omega arith
 
-    others_hold : holders s f ≢ 1 → held closed f ≡ true
-    unfolding held after
-    others_hold d = lt-ltb 0 (holders closed f) (omega (arith, holders-closed))
+    last : (n m : ℕ) → n + 1 ≡ m → not (ltb 0 n) ≡ eqb m 1
+    last zero m e = sym (eq-eqb m 1 (omega arith))
+    last (suc n) m e = rw (lt-ltb 0 (suc n) (omega arith), ne_eqb m 1 (λ one. omega arith))
 
-    none_holds : holders s f ≡ 1 → held closed f ≡ false
+    -- none holds it then, exactly where one did
+    left-holders : not (held closed f) ≡ eqb (holders s f) 1
     unfolding held after
-    none_holds e = le-ltb 0 (holders closed f) (omega (arith, holders-closed))
+    left-holders = last (holders closed f) (holders s f) holders-closed
+
+    third_second : (a b c : Bool) → true && a && b && c ≡ a && c && b
+    third_second false b c = refl
+    third_second true true true = refl
+    third_second true true false = refl
+    third_second true false true = refl
+    third_second true false false = refl
 
     -- the file goes with its channel exactly where it is ordinary, no other channel holds it and no record names it
-    module _ (used : in_use s f ≡ true) where
-      stays : is_orphan closed f ≡ false → let_go closed f ≡ []
-      unfolding let_go
-      stays e = rw e
-
-      pub stays_directory : (s.file f).kind ≢ 1 → let_go closed f ≡ []
-      stays_directory d = stays (orphan_closed f ∙ rw (used, ne_eqb (s.file f).kind 1 d))
-
-      pub stays_held : holders s f ≢ 1 → let_go closed f ≡ []
-      stays_held d = stays (orphan_closed f ∙ rw (others_hold d, and_false (in_use s f && eqb (s.file f).kind 1 && eqb (names s f) 0)))
-
-      pub stays_named : names s f ≢ 0 → let_go closed f ≡ []
-      stays_named d = stays (orphan_closed f ∙ rw (ne_eqb (names s f) 0 d, and_false (in_use s f && eqb (s.file f).kind 1)))
-
-      pub goes : (s.file f).kind ≡ 1 → holders s f ≡ 1 → names s f ≡ 0 → let_go closed f ≡ file f no_file ∷ []
-      unfolding let_go
-      goes kind last unnamed =
-          let all : is_orphan closed f ≡ true =
-          orphan_closed f ∙ rw (used, eq-eqb (s.file f).kind 1 kind, eq-eqb (names s f) 0 unnamed, none_holds last) in
-          rw all
+    pub goes_where : in_use s f ≡ true → let_go closed f ≡ pick (eqb (s.file f).kind 1 && eqb (holders s f) 1 && eqb (names s f) 0) (file f no_file ∷ []) []
+    unfolding let_go
+    goes_where used =
+        let all : is_orphan closed f ≡ eqb (s.file f).kind 1 && eqb (holders s f) 1 && eqb (names s f) 0 =
+        orphan_closed f ∙ rw (used, left-holders) (third_second (eqb (s.file f).kind 1) (eqb (names s f) 0) (eqb (holders s f) 1)) in
+        rw all

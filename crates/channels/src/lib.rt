@@ -1,8 +1,11 @@
-// Calls on a channel.
+// Calls on a channel. A call that changes tables takes each by itself, as the C interface does: a struct of `&mut` is no plainer, since
+// a clause would have to name each of its fields.
 #![tactic(auto)]
 
-ghost use Rattle.std.specs.Prelude.{◌≡◌, ◌+◌, ◌≤◌, ◌<◌, length};
+ghost use Rattle.std.specs.Prelude.{◌≡◌, ◌+◌, ◌≤◌, ◌<◌, length, ltb, Some, None};
+ghost use Rattle.records.specs.Rows.{pick};
 ghost use Rattle.meaning.specs.Tables.{tables};
+ghost use Rattle.meaning.specs.Types.{tables_of};
 ghost use Rattle.meaning.specs.ChannelCalls.{seek_to};
 ghost use Rattle.meaning.specs.Run.{Keeps, KeepsInto, Call};
 ghost use Rattle.meaning.specs.Answers.{counted, reported, sought, stat_of};
@@ -13,122 +16,75 @@ ghost use Rattle.channels.specs.Close.{Closes};
 
 use counts::names_of;
 use files::{clear_file, read_file};
-use meaning::{ChannelNo, Counted, FileNo, LAST_POSITION, Report, Sought, Stat};
+use meaning::{ChannelNo, FileNo, Kind, LAST_POSITION, Lent, Report, Stat};
 use soundness::is_sound;
 use tables::{ChannelRecord, channel_record, count_channels, file_record, put_channel_record};
 
 // What a channel holds, or the refusal that comes before any other of a call on a channel.
-#[derive(Clone, Copy)]
-pub enum Held {
-    Open(ChannelRecord),
-    Refused(Report),
-}
-
-pub fn held_channel(
-    blocks: &[u8],
-    block_records: &[u8],
-    file_records: &[u8],
-    channel_records: &[u8],
-    c: ChannelNo,
-) -> Held
-    ensures { OnChannel (tables blocks.now block_records.now file_records.now channel_records.now) c.0 result }
+pub fn held_channel(store: &Lent, c: ChannelNo) -> Result<ChannelRecord, Report>
+    ensures { OnChannel (tables_of store.now) c.0 result }
 {
-    if !is_sound(blocks, block_records, file_records, channel_records) {
-        return Held::Refused(Report::NotAStore);
+    if !is_sound(store) {
+        return Err(Report::NotAStore);
     }
-    if channel_records.len() / 8 <= c.0 as usize {
-        return Held::Refused(Report::NoSuchCid);
+    if store.channel_records.len() / 8 <= c.0 as usize {
+        return Err(Report::NoSuchCid);
     }
-    let record = channel_record(channel_records, c);
-    if record.file.0 == 0 {
-        return Held::Refused(Report::NoSuchCid);
+    let record = channel_record(store.channel_records, c);
+    if record.file.is_none() {
+        return Err(Report::NoSuchCid);
     }
-    Held::Open(record)
+    Ok(record)
 }
 
 // The file that a channel holds: length, file number, kind.
-pub fn fstat(
-    blocks: &[u8],
-    block_records: &[u8],
-    file_records: &[u8],
-    channel_records: &[u8],
-    c: ChannelNo,
-) -> Stat
-    ensures { Keeps (Call.Fstat c.0) (tables blocks.now block_records.now file_records.now channel_records.now) (tables blocks.now block_records.now file_records.now channel_records.now) (stat_of result) }
+pub fn fstat(store: &Lent, c: ChannelNo) -> Result<Stat, Report>
+    ensures { Keeps (Call.Fstat c.0) (tables_of store.now) (tables_of store.now) (stat_of result) }
 {
-    let held = held_channel(blocks, block_records, file_records, channel_records, c);
-    match held {
-        Held::Refused(why) => Stat::Refused(why),
-        Held::Open(channel) => {
-            let f = channel.file;
-            let record = file_record(file_records, f);
-            Stat::Of(record.length, f, record.kind)
-        }
-    }
+    let channel = held_channel(store, c)?;
+    let record = file_record(store.file_records, channel.file);
+    let kind = if record.is(Kind::Directory) {
+        Kind::Directory
+    } else {
+        Kind::File
+    };
+    Ok(Stat {
+        length: record.length,
+        file: channel.file,
+        kind,
+    })
 }
 
 // Where a seek leads, by its mode 0 to 5.
-fn seek_to(mode: u32, posn: u32, size: u32, n: u32) -> u64
-    requires { mode ≤ 5 }
-    ensures { result ≡ seek_to mode posn size n }
+fn seek_to(mode: u32, posn: u32, size: u32, n: u32) -> Option<u64>
+    ensures { result ≡ pick (ltb 5 mode) None (Some (seek_to mode posn size n)) }
 {
     let bytes = n as u64;
-    if mode == 0 {
-        return bytes;
+    match mode {
+        0 => Some(bytes),
+        1 => Some(posn as u64 + bytes),
+        2 => Some(size as u64 + bytes),
+        3 => Some(512 * bytes),
+        4 => Some(posn as u64 + 512 * bytes),
+        5 => Some(size as u64 + 512 * bytes),
+        _ => None,
     }
-    if mode == 1 {
-        return posn as u64 + bytes;
-    }
-    if mode == 2 {
-        return size as u64 + bytes;
-    }
-    if mode == 3 {
-        return 512 * bytes;
-    }
-    if mode == 4 {
-        return posn as u64 + 512 * bytes;
-    }
-    size as u64 + 512 * bytes
 }
 
-// What seek decides: the channel's record with its new position, or a refusal.
-#[derive(Clone, Copy)]
-pub enum Seeking {
-    To(ChannelRecord),
-    No(Report),
-}
-
-// The refusals of a seek in their order, or where it leads.
-fn decide_seek(
-    blocks: &[u8],
-    block_records: &[u8],
-    file_records: &[u8],
-    channel_records: &[u8],
-    c: ChannelNo,
-    mode: u32,
-    n: u32,
-) -> Seeking
-    ensures { Decided (tables blocks.now block_records.now file_records.now channel_records.now) c.0 mode n result }
+// The refusals of a seek in their order, or the channel's record with its new position.
+fn decide_seek(store: &Lent, c: ChannelNo, mode: u32, n: u32) -> Result<ChannelRecord, Report>
+    ensures { Decided (tables_of store.now) c.0 mode n result }
 {
-    let held = held_channel(blocks, block_records, file_records, channel_records, c);
-    match held {
-        Held::Refused(why) => Seeking::No(why),
-        Held::Open(channel) => {
-            if 5 < mode {
-                return Seeking::No(Report::BadSeek);
-            }
-            let f = channel.file;
-            let record = file_record(file_records, f);
-            let to = seek_to(mode, channel.position, record.length, n);
-            if (LAST_POSITION as u64) < to {
-                return Seeking::No(Report::BadSeek);
-            }
-            Seeking::To(ChannelRecord {
-                file: f,
-                position: to as u32,
-            })
-        }
+    let channel = held_channel(store, c)?;
+    let record = file_record(store.file_records, channel.file);
+    let to = seek_to(mode, channel.position, record.length, n).ok_or(Report::BadSeek)?;
+    if (LAST_POSITION as u64) < to {
+        return Err(Report::BadSeek);
     }
+    Ok(ChannelRecord {
+        position: to as u32,
+        ..channel
+    })
 }
 
 // Moves a channel's position.
@@ -140,25 +96,18 @@ pub fn seek(
     c: ChannelNo,
     mode: u32,
     n: u32,
-) -> Sought
+) -> Result<u32, Report>
     ensures { Keeps (Call.Seek c.0 mode n) (tables blocks.now block_records.now file_records.now channel_records.old) (tables blocks.now block_records.now file_records.now channel_records.new) (sought result) }
 {
-    let decided = decide_seek(
+    let store = Lent {
         blocks,
         block_records,
         file_records,
         channel_records,
-        c,
-        mode,
-        n,
-    );
-    match decided {
-        Seeking::No(why) => Sought::Refused(why),
-        Seeking::To(moved) => {
-            put_channel_record(channel_records, c, moved);
-            Sought::At(moved.position)
-        }
-    }
+    };
+    let moved = decide_seek(&store, c, mode, n)?;
+    put_channel_record(channel_records, c, moved);
+    Ok(moved.position)
 }
 
 // The position a count of bytes further.
@@ -195,66 +144,31 @@ pub fn read(
     channel_records: &mut [u8],
     c: ChannelNo,
     buffer: &mut [u8],
-) -> Counted
+) -> Result<u32, Report>
     ensures { KeepsInto (Call.Read c.0 (length buffer.old)) (tables blocks.now block_records.now file_records.now channel_records.old) (tables blocks.now block_records.now file_records.now channel_records.new) buffer.old buffer.new (counted result) }
 {
-    let held = held_channel(blocks, block_records, file_records, channel_records, c);
-    match held {
-        Held::Refused(why) => Counted::Refused(why),
-        Held::Open(channel) => {
-            let f = channel.file;
-            let n = read_file(
-                blocks,
-                block_records,
-                file_records,
-                f,
-                channel.position,
-                buffer,
-            );
-            let count = n as usize;
-            let next = moved_by(channel, count);
-            put_channel_record(channel_records, c, next);
-            Counted::Of(n)
-        }
-    }
+    let store = Lent {
+        blocks,
+        block_records,
+        file_records,
+        channel_records,
+    };
+    let channel = held_channel(&store, c)?;
+    let n = read_file(&store, channel.file, channel.position, buffer);
+    let next = moved_by(channel, n as usize);
+    put_channel_record(channel_records, c, next);
+    Ok(n)
 }
 
-// What close decides: the channel alone goes, its file goes with it, or a refusal.
-#[derive(Clone, Copy)]
-pub enum Closing {
-    Alone,
-    WithFile(FileNo),
-    No(Report),
-}
-
-// The file of an open channel goes with it where it is ordinary, no other channel holds it and no record names it.
-fn decide_close(
-    blocks: &[u8],
-    block_records: &[u8],
-    file_records: &[u8],
-    channel_records: &[u8],
-    c: ChannelNo,
-) -> Closing
-    ensures { Closes (tables blocks.now block_records.now file_records.now channel_records.now) c.0 result }
+// Whether a channel can be closed, and the file that goes with it: an ordinary one that no other channel holds and no record names.
+fn decide_close(store: &Lent, c: ChannelNo) -> Result<Option<FileNo>, Report>
+    ensures { Closes (tables_of store.now) c.0 result }
 {
-    let held = held_channel(blocks, block_records, file_records, channel_records, c);
-    match held {
-        Held::Refused(why) => Closing::No(why),
-        Held::Open(channel) => {
-            let f = channel.file;
-            let record = file_record(file_records, f);
-            if record.kind != 1 {
-                return Closing::Alone;
-            }
-            if count_channels(channel_records, f) != 1 {
-                return Closing::Alone;
-            }
-            if names_of(blocks, block_records, file_records, f) != 0 {
-                return Closing::Alone;
-            }
-            Closing::WithFile(f)
-        }
-    }
+    let file = held_channel(store, c)?.file;
+    let goes = file_record(store.file_records, file).is(Kind::File)
+        && count_channels(store.channel_records, file) == 1
+        && names_of(store, file) == 0;
+    Ok(goes.then_some(file))
 }
 
 // Closes a channel. An ordinary file with neither a name nor a channel goes with it.
@@ -264,24 +178,23 @@ pub fn close(
     file_records: &mut [u8],
     channel_records: &mut [u8],
     c: ChannelNo,
-) -> Report
+) -> Result<(), Report>
     ensures { Keeps (Call.Close c.0) (tables blocks.now block_records.old file_records.old channel_records.old) (tables blocks.now block_records.new file_records.new channel_records.new) (reported result) }
 {
+    let store = Lent {
+        blocks,
+        block_records,
+        file_records,
+        channel_records,
+    };
+    let gone = decide_close(&store, c)?;
     let free = ChannelRecord {
-        file: FileNo(0),
+        file: FileNo::NONE,
         position: 0,
     };
-    let decided = decide_close(blocks, block_records, file_records, channel_records, c);
-    match decided {
-        Closing::No(why) => why,
-        Closing::Alone => {
-            put_channel_record(channel_records, c, free);
-            Report::Ok
-        }
-        Closing::WithFile(f) => {
-            put_channel_record(channel_records, c, free);
-            clear_file(block_records, file_records, f, 0, 0);
-            Report::Ok
-        }
+    put_channel_record(channel_records, c, free);
+    if let Some(f) = gone {
+        clear_file(block_records, file_records, f, Kind::Free as u8, 0);
     }
+    Ok(())
 }

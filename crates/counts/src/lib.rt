@@ -3,41 +3,36 @@
 
 ghost use Rattle.std.specs.Prelude.{◌≡◌};
 ghost use Rattle.meaning.specs.Store.{names};
-ghost use Rattle.meaning.specs.Tables.{tables, store_of};
-ghost use Rattle.soundness.specs.Slots.{directories_store};
+ghost use Rattle.meaning.specs.Tables.{store_of};
+ghost use Rattle.meaning.specs.Types.{tables_of, file_numbered};
+ghost use Rattle.soundness.specs.Slots.{directories_of};
 ghost use Rattle.counts.specs.OfStore.{OfStore};
 ghost use Rattle.counts.specs.Gone.{gone_with};
 
-use meaning::FileNo;
+use meaning::{FileNo, Lent};
 use soundness::count_names;
 use tables::is_held;
 
 // How many records name file f, over all directories together.
-pub fn names_of(blocks: &[u8], block_records: &[u8], file_records: &[u8], f: FileNo) -> u32
-    requires { OfStore blocks.now block_records.now file_records.now f.0 }
-    ensures { result ≡ names (directories_store blocks.now block_records.now file_records.now) f.0 }
+pub fn names_of(store: &Lent, f: FileNo) -> u32
+    requires { OfStore store.now.blocks.now store.now.block_records.now store.now.file_records.now f.0 }
+    ensures { result ≡ names (directories_of store.now) f.0 }
 {
-    let counts = count_names(blocks, block_records, file_records);
+    let counts = count_names(store);
     let k = f.0 as usize;
     counts[k]
 }
 
-// The file that goes with a name of file f: f itself, where this is its only name and no channel holds it, and else none, 0.
-pub fn gone_with(
-    blocks: &[u8],
-    block_records: &[u8],
-    file_records: &[u8],
-    channel_records: &[u8],
-    f: FileNo,
-) -> FileNo
-    requires { OfStore blocks.now block_records.now file_records.now f.0 }
-    ensures { result.0 ≡ gone_with (store_of (tables blocks.now block_records.now file_records.now channel_records.now)) f.0 }
+// The file that goes with a name of file f: f itself, where this is its only name and no channel holds it.
+pub fn gone_with(store: &Lent, f: FileNo) -> Option<FileNo>
+    requires { OfStore store.now.blocks.now store.now.block_records.now store.now.file_records.now f.0 }
+    ensures { result ≡ file_numbered (gone_with (store_of (tables_of store.now)) f.0) }
 {
-    if names_of(blocks, block_records, file_records, f) != 1 {
-        return FileNo(0);
+    if names_of(store, f) != 1 {
+        return None;
     }
-    if is_held(channel_records, f) {
-        return FileNo(0);
+    if is_held(store.channel_records, f) {
+        return None;
     }
-    f
+    f.or_none()
 }

@@ -1,6 +1,6 @@
 -- What the searches over a directory's records find, off the block table.
 use Rattle.std.specs.Prelude.{ℕ, ◌+◌, ◌*◌, ◌≤◌, ◌<◌, ◌≡◌, List, Bool, length}
-use Rattle.records.specs.Rows.{lowest}
+use Rattle.records.specs.Rows.{lowest, how_many}
 use Rattle.records.specs.Numbers.{zeros}
 use Rattle.meaning.specs.Name.{same, entry_in}
 use Rattle.meaning.specs.Tables.{block_count, block_of}
@@ -29,3 +29,7 @@ run_lowest test at n = lowest n (λ j. test (at + 16 * j))
 -- the lowest record of directory d that passes a test of places
 unfoldable pub place_lowest : (ℕ → Bool) → List ℕ → ℕ → ℕ → ℕ
 place_lowest test records d count = lowest count (λ i. test (record_place records d i))
+
+-- how many records of directory d pass a test of places
+unfoldable pub place_passing : (ℕ → Bool) → List ℕ → ℕ → ℕ → ℕ
+place_passing test records d count = how_many count (λ i. test (record_place records d i))

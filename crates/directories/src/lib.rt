@@ -1,106 +1,79 @@
-// Directories: finding records in the blocks of a directory. Laws of records are in specs/.
+// Directories: records found and counted in the blocks of a directory, run by run. Laws of records are in specs/.
 #![tactic(auto)]
 
-ghost use Rattle.std.specs.Prelude.{◌≡◌, ◌+◌, ◌-◌, ◌*◌, ◌≤◌, ◌<◌, min, length};
-ghost use Rattle.names.specs.Syllables.{part};
-ghost use Rattle.directories.specs.Find.{Lies, named_at, blank_at, run_lowest, place_lowest};
+ghost use Rattle.std.specs.Prelude.{◌≡◌, ◌+◌, ◌-◌, ◌*◌, ◌≤◌, ◌<◌, ℕ, Bool, min, length};
+ghost use Rattle.records.specs.Rows.{found_below};
+ghost use Rattle.directories.specs.Find.{Lies, named_at, blank_at, place_lowest, place_passing};
 
-use meaning::FileNo;
+use meaning::{FileNo, Lent};
 use names::names_record;
 use records::zeros_at;
 use tables::place_start;
-
-// The lowest of n records from a place on that has a part of a name as its name, or n where none has.
-fn find_named_in_run(
-    blocks: &[u8],
-    at: usize,
-    n: usize,
-    name: &[u8],
-    from: usize,
-    to: usize,
-) -> usize
-    requires run_in_bounds { (at + 16 * n ≤ length blocks.now) × (n ≤ 32) }
-    requires part_in_bounds { (from ≤ to) × (to ≤ length name.now) }
-    ensures { result ≡ run_lowest (named_at blocks.now (part name.now from to)) at n }
-{
-    let mut j = 0;
-    while j < n {
-        if names_record(blocks, at + 16 * j, name, from, to) {
-            return j;
-        }
-        j += 1;
-    }
-    n
-}
-
-// The lowest of n records from a place on that is blank, or n where none is.
-fn find_blank_in_run(blocks: &[u8], at: usize, n: usize) -> usize
-    requires { (at + 16 * n ≤ length blocks.now) × (n ≤ 32) }
-    ensures { result ≡ run_lowest (blank_at blocks.now) at n }
-{
-    let mut j = 0;
-    while j < n {
-        if zeros_at(blocks, at + 16 * j, 16) {
-            return j;
-        }
-        j += 1;
-    }
-    n
-}
 
 // How many of the records from run k on lie in one block.
 pub fn run_size(count: usize, k: usize) -> usize
     requires { 32 * k < count }
     ensures { result ≡ min 32 (count - 32 * k) }
 {
-    let left = count - 32 * k;
-    if left < 32 {
-        return left;
-    }
-    32
+    (count - 32 * k).min(32)
 }
 
-// The record of directory d that has a part of a name as its name, or the count of records where none has.
-pub fn find_named(
-    blocks: &[u8],
-    block_records: &[u8],
+// The lowest record of directory d that passes a test of the place where a record starts, if one does. The block of a run is found once.
+pub fn lowest_record<F: Fn(usize) -> bool>(
+    store: &Lent,
     d: FileNo,
     count: usize,
-    name: &[u8],
-    from: usize,
-    to: usize,
-) -> usize
-    requires lies { Lies blocks.now block_records.now d.0 count }
-    requires part_in_bounds { (from ≤ to) × (to ≤ length name.now) }
-    ensures { result ≡ place_lowest (named_at blocks.now (part name.now from to)) block_records.now d.0 count }
+    test: F,
+) -> Option<usize>
+    requires lies { Lies store.now.blocks.now store.now.block_records.now d.0 count }
+    requires testable { (at : ℕ) → at + 16 ≤ length store.now.blocks.now → F.pre test at }
+    ensures { (p : ℕ → Bool) → ((at : ℕ) (b : Bool) → at + 16 ≤ length store.now.blocks.now → F.post test at b → b ≡ p at)
+        → result ≡ found_below count (place_lowest p store.now.block_records.now d.0 count) }
 {
-    let mut k = 0;
-    while 32 * k < count {
-        let at = place_start(block_records, d, k as u16);
-        let n = run_size(count, k);
-        let j = find_named_in_run(blocks, at, n, name, from, to);
-        if j < n {
-            return 32 * k + j;
+    for k in 0..count.div_ceil(32) {
+        let at = place_start(store.block_records, d, k as u16);
+        for j in 0..run_size(count, k) {
+            if test(at + 16 * j) {
+                return Some(32 * k + j);
+            }
         }
-        k += 1;
     }
-    count
+    None
 }
 
-// The first blank record of directory d, or the count of records where none is.
-pub fn find_blank(blocks: &[u8], block_records: &[u8], d: FileNo, count: usize) -> usize
-    requires { Lies blocks.now block_records.now d.0 count }
-    ensures { result ≡ place_lowest (blank_at blocks.now) block_records.now d.0 count }
+// How many records of directory d pass such a test.
+pub fn count_records<F: Fn(usize) -> bool>(store: &Lent, d: FileNo, count: usize, test: F) -> usize
+    requires lies { Lies store.now.blocks.now store.now.block_records.now d.0 count }
+    requires testable { (at : ℕ) → at + 16 ≤ length store.now.blocks.now → F.pre test at }
+    ensures { (p : ℕ → Bool) → ((at : ℕ) (b : Bool) → at + 16 ≤ length store.now.blocks.now → F.post test at b → b ≡ p at)
+        → result ≡ place_passing p store.now.block_records.now d.0 count }
 {
-    let mut k = 0;
-    while 32 * k < count {
-        let at = place_start(block_records, d, k as u16);
-        let n = run_size(count, k);
-        let j = find_blank_in_run(blocks, at, n);
-        if j < n {
-            return 32 * k + j;
+    let mut passing: usize = 0;
+    for k in 0..count.div_ceil(32) {
+        let at = place_start(store.block_records, d, k as u16);
+        for j in 0..run_size(count, k) {
+            if test(at + 16 * j) {
+                passing += 1;
+            }
         }
-        k += 1;
     }
-    count
+    passing
+}
+
+// The record of directory d that has a syllable as its name, if one has.
+pub fn find_named(store: &Lent, d: FileNo, count: usize, syllable: &[u8]) -> Option<usize>
+    requires { Lies store.now.blocks.now store.now.block_records.now d.0 count }
+    ensures { result ≡ found_below count (place_lowest (named_at store.now.blocks.now syllable.now) store.now.block_records.now d.0 count) }
+{
+    lowest_record(store, d, count, |at| {
+        names_record(store.blocks, at, syllable)
+    })
+}
+
+// The first blank record of directory d, if one is blank.
+pub fn find_blank(store: &Lent, d: FileNo, count: usize) -> Option<usize>
+    requires { Lies store.now.blocks.now store.now.block_records.now d.0 count }
+    ensures { result ≡ found_below count (place_lowest (blank_at store.now.blocks.now) store.now.block_records.now d.0 count) }
+{
+    lowest_record(store, d, count, |at| zeros_at(store.blocks, at, 16))
 }

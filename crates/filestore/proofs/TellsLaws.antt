@@ -1,51 +1,19 @@
 -- How an answer is told and a promise told is met; what is told of a refusal and of an accepted call; and that two outcomes
 -- that the promise allows are identical.
-use Rattle.std.specs.Prelude.{ℕ, zero, suc, ◌-◌, ◌≤◌, ◌≡◌, refl, List, [], ◌∷◌, ◌++◌, Bool, true, false, eqb}
+use Rattle.std.specs.Prelude.{ℕ, ◌-◌, ◌≤◌, ◌≡◌, List, ◌∷◌, ◌++◌}
 use Rattle.std.proofs.Common.{sym, ◌∙◌}
 use Rattle.std.proofs.Math.Path.{ap}
 use Rattle.std.proofs.Math.ListN.{length, replicate}
 use native.Mathlib.Omega.{arith}
-use Rattle.records.specs.Rows.{pick}
 use Rattle.meaning.specs.Store.{Change}
 use Rattle.meaning.specs.Result.{Result, refused, done}
 use Rattle.meaning.specs.Tables.{Tables}
-use Rattle.meaning.specs.Run.{Call, Answer, accepted, refusal, Promise, result_of, answer_of, width, number_of}
+use Rattle.meaning.specs.Run.{Call, Answer, Promise, result_of, answer_of, width, number_of}
 use Rattle.meaning.proofs.Determined.{same_outcome}
-use Rattle.meaning.specs.Answers.{reported}
 use Rattle.meaning.specs.declared.Report.{Report}
 use Rattle.filestore.specs.declared.Told.{Told}
 use Rattle.filestore.specs.Tells.{four, in_four, alone, Seen, PromiseTold}
-
--- ---- answers in four numbers
-
--- a refusal of any call has zeros after its report
-refusal-alone : (n : ℕ) (why : Report) → n ≤ 3 → in_four (refusal n why) ≡ alone why
-unfolding in_four refusal
-refusal-alone n why = go n (eqb (number_of why) 0)
-  where
-    go : (n : ℕ) (t : Bool) → n ≤ 3
-        → (number_of why ∷ pick t [] (replicate {A = ℕ} n 0)) ++ replicate (4 - length (number_of why ∷ pick t [] (replicate {A = ℕ} n 0))) 0 ≡ alone why
-    go n true h = refl
-    go zero false h = refl
-    go (suc zero) false h = refl
-    go (suc (suc zero)) false h = refl
-    go (suc (suc (suc zero))) false h = refl
-    go (suc (suc (suc (suc n)))) false h = absurd (omega arith)
-
-pub refusal-told : (n : ℕ) (why : Report) (r : Told) → n ≤ 3 → four r ≡ alone why → four r ≡ in_four (refusal n why)
-refusal-told n why r h e = e ∙ sym (refusal-alone n why h)
-
-pub report_told : (why : Report) (r : Told) → four r ≡ alone why → four r ≡ in_four (reported why)
-unfolding in_four
-report_told why r e = e
-
-pub one_told : (n : ℕ) → four (record { report = 0; first = n; second = 0; third = 0 }) ≡ in_four (accepted (n ∷ []))
-unfolding in_four number_of
-one_told n = refl
-
-pub three_told : (k m n : ℕ) → four (record { report = 0; first = k; second = m; third = n }) ≡ in_four (accepted (k ∷ m ∷ n ∷ []))
-unfolding in_four number_of
-three_told k m n = refl
+use Rattle.filestore.specs.Rows.{refusal-alone}
 
 -- ---- a promise that is kept and an answer that is told
 

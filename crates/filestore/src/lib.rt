@@ -1,5 +1,6 @@
 // The calls as programs in other languages make them. Each makes its call and tells the answer as four numbers; nothing is decided here.
 // Above each stands what it answers after its report.
+// Tables are taken one by one, as the C interface has them.
 #![tactic(auto)]
 
 mod answers;
@@ -9,12 +10,12 @@ ghost use Rattle.meaning.specs.Tables.{tables};
 ghost use Rattle.meaning.specs.Run.{entered, left, Call};
 ghost use Rattle.filestore.specs.Tells.{Tells, TellsInto};
 
-use answers::{tell_counted, tell_opened, tell_report, tell_sought, tell_space, tell_stat};
+use answers::tell;
 use channels::{close, fstat, read, seek};
 use folders::{mkdir, rmdir};
 use linking::{link, move_name};
 use listing::ls;
-use meaning::ChannelNo;
+use meaning::{ChannelNo, Lent};
 use opening::{create, open};
 use rooms::{prepare, room};
 use unlinking::unlink;
@@ -22,7 +23,7 @@ use writing::write;
 
 // What a call answers: its report, then its numbers, then zeros. A refusal has zeros after its report.
 #[repr(C)]
-#[derive(Clone, Copy)]
+#[derive(Clone, Copy, Debug, PartialEq, Eq)]
 pub struct Told {
     pub report: u32,
     pub first: u32,
@@ -39,8 +40,7 @@ pub fn filestore_prepare(
 ) -> Told
     ensures { Tells Call.Prepare (tables blocks.now block_records.old file_records.old channel_records.old) (tables blocks.now block_records.new file_records.new channel_records.new) result }
 {
-    let answer = prepare(blocks, block_records, file_records, channel_records);
-    tell_report(answer)
+    tell(prepare(blocks, block_records, file_records, channel_records))
 }
 
 // The channel.
@@ -53,8 +53,7 @@ pub fn filestore_create(
 ) -> Told
     ensures { Tells (Call.Create name.now) (entered blocks block_records file_records channel_records) (left blocks block_records file_records channel_records) result }
 {
-    let answer = create(blocks, block_records, file_records, channel_records, name);
-    tell_opened(answer)
+    tell(create(blocks, block_records, file_records, channel_records, name))
 }
 
 // The channel.
@@ -67,8 +66,7 @@ pub fn filestore_open(
 ) -> Told
     ensures { Tells (Call.Open name.now) (tables blocks.now block_records.now file_records.now channel_records.old) (tables blocks.now block_records.now file_records.now channel_records.new) result }
 {
-    let answer = open(blocks, block_records, file_records, channel_records, name);
-    tell_opened(answer)
+    tell(open(blocks, block_records, file_records, channel_records, name))
 }
 
 // Nothing.
@@ -81,14 +79,13 @@ pub fn filestore_close(
 ) -> Told
     ensures { Tells (Call.Close c) (tables blocks.now block_records.old file_records.old channel_records.old) (tables blocks.now block_records.new file_records.new channel_records.new) result }
 {
-    let answer = close(
+    tell(close(
         blocks,
         block_records,
         file_records,
         channel_records,
         ChannelNo(c),
-    );
-    tell_report(answer)
+    ))
 }
 
 // The count of bytes read.
@@ -102,15 +99,14 @@ pub fn filestore_read(
 ) -> Told
     ensures { TellsInto (Call.Read c (length buffer.old)) (tables blocks.now block_records.now file_records.now channel_records.old) (tables blocks.now block_records.now file_records.now channel_records.new) buffer.old buffer.new result }
 {
-    let answer = read(
+    tell(read(
         blocks,
         block_records,
         file_records,
         channel_records,
         ChannelNo(c),
         buffer,
-    );
-    tell_counted(answer)
+    ))
 }
 
 // The count of bytes written.
@@ -124,15 +120,14 @@ pub fn filestore_write(
 ) -> Told
     ensures { Tells (Call.Write c «data».now) (entered blocks block_records file_records channel_records) (left blocks block_records file_records channel_records) result }
 {
-    let answer = write(
+    tell(write(
         blocks,
         block_records,
         file_records,
         channel_records,
         ChannelNo(c),
         data,
-    );
-    tell_counted(answer)
+    ))
 }
 
 // The new position.
@@ -147,7 +142,7 @@ pub fn filestore_seek(
 ) -> Told
     ensures { Tells (Call.Seek c mode n) (tables blocks.now block_records.now file_records.now channel_records.old) (tables blocks.now block_records.now file_records.now channel_records.new) result }
 {
-    let answer = seek(
+    tell(seek(
         blocks,
         block_records,
         file_records,
@@ -155,8 +150,7 @@ pub fn filestore_seek(
         ChannelNo(c),
         mode,
         n,
-    );
-    tell_sought(answer)
+    ))
 }
 
 // Length, file number, kind.
@@ -169,14 +163,13 @@ pub fn filestore_fstat(
 ) -> Told
     ensures { Tells (Call.Fstat c) (tables blocks.now block_records.now file_records.now channel_records.now) (tables blocks.now block_records.now file_records.now channel_records.now) result }
 {
-    let answer = fstat(
+    let store = Lent {
         blocks,
         block_records,
         file_records,
         channel_records,
-        ChannelNo(c),
-    );
-    tell_stat(answer)
+    };
+    tell(fstat(&store, ChannelNo(c)))
 }
 
 // Nothing.
@@ -190,15 +183,14 @@ pub fn filestore_link(
 ) -> Told
     ensures { Tells (Call.Link old.now new.now) (tables blocks.old block_records.old file_records.old channel_records.now) (tables blocks.new block_records.new file_records.new channel_records.now) result }
 {
-    let answer = link(
+    tell(link(
         blocks,
         block_records,
         file_records,
         channel_records,
         old,
         new,
-    );
-    tell_report(answer)
+    ))
 }
 
 // Nothing.
@@ -211,8 +203,7 @@ pub fn filestore_unlink(
 ) -> Told
     ensures { Tells (Call.Unlink name.now) (tables blocks.old block_records.old file_records.old channel_records.now) (tables blocks.new block_records.new file_records.new channel_records.now) result }
 {
-    let answer = unlink(blocks, block_records, file_records, channel_records, name);
-    tell_report(answer)
+    tell(unlink(blocks, block_records, file_records, channel_records, name))
 }
 
 // Nothing.
@@ -226,15 +217,14 @@ pub fn filestore_move(
 ) -> Told
     ensures { Tells (Call.Move old.now new.now) (tables blocks.old block_records.old file_records.old channel_records.now) (tables blocks.new block_records.new file_records.new channel_records.now) result }
 {
-    let answer = move_name(
+    tell(move_name(
         blocks,
         block_records,
         file_records,
         channel_records,
         old,
         new,
-    );
-    tell_report(answer)
+    ))
 }
 
 // The count of names.
@@ -248,15 +238,13 @@ pub fn filestore_ls(
 ) -> Told
     ensures { TellsInto (Call.Ls name.now (length buffer.old)) (tables blocks.now block_records.now file_records.now channel_records.now) (tables blocks.now block_records.now file_records.now channel_records.now) buffer.old buffer.new result }
 {
-    let answer = ls(
+    let store = Lent {
         blocks,
         block_records,
         file_records,
         channel_records,
-        name,
-        buffer,
-    );
-    tell_counted(answer)
+    };
+    tell(ls(&store, name, buffer))
 }
 
 // Nothing.
@@ -269,8 +257,7 @@ pub fn filestore_mkdir(
 ) -> Told
     ensures { Tells (Call.Mkdir name.now) (tables blocks.old block_records.old file_records.old channel_records.now) (tables blocks.new block_records.new file_records.new channel_records.now) result }
 {
-    let answer = mkdir(blocks, block_records, file_records, channel_records, name);
-    tell_report(answer)
+    tell(mkdir(blocks, block_records, file_records, channel_records, name))
 }
 
 // Nothing.
@@ -283,8 +270,7 @@ pub fn filestore_rmdir(
 ) -> Told
     ensures { Tells (Call.Rmdir name.now) (tables blocks.old block_records.old file_records.old channel_records.now) (tables blocks.new block_records.new file_records.new channel_records.now) result }
 {
-    let answer = rmdir(blocks, block_records, file_records, channel_records, name);
-    tell_report(answer)
+    tell(rmdir(blocks, block_records, file_records, channel_records, name))
 }
 
 // Free blocks, free file numbers, free channels.
@@ -296,6 +282,11 @@ pub fn filestore_room(
 ) -> Told
     ensures { Tells Call.Room (tables blocks.now block_records.now file_records.now channel_records.now) (tables blocks.now block_records.now file_records.now channel_records.now) result }
 {
-    let answer = room(blocks, block_records, file_records, channel_records);
-    tell_space(answer)
+    let store = Lent {
+        blocks,
+        block_records,
+        file_records,
+        channel_records,
+    };
+    tell(room(&store))
 }

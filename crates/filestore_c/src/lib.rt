@@ -1,4 +1,5 @@
 // The exports of the static library, for programs in other languages: each is the call of `filestore` with its name, and keeps its contract.
+// Each stands here too, since a crate is a library or a static library, not both, and C passes each table by itself.
 #![tactic(auto)]
 
 ghost use Rattle.std.specs.Prelude.{length};

@@ -1,18 +1,16 @@
 -- Parts served one behind another.
-use Rattle.std.specs.Prelude.{ℕ, ◌≡◌, List, [], ◌∷◌, ◌++◌, true, false, take}
-use Rattle.std.proofs.Math.Path.{refl}
-use Rattle.std.proofs.Common.{sym, ap, append-nil, append_assoc}
+use Rattle.std.specs.Prelude.{ℕ, ◌+◌, ◌≡◌, refl, List, [], ◌∷◌, ◌++◌, None, Some, take}
+use Rattle.std.proofs.Common.{sym, ap, ◌∙◌, append-nil, append_assoc}
 use Rattle.meaning.specs.Tables.{Tables}
 use Rattle.text.specs.Line.{asked}
 use Rattle.text.specs.Print.{transcript, served, served_as, newline}
 use Rattle.text.specs.Program.{completed, remaining, after_lines}
-use Rattle.text.specs.Gathering.{Pends, Gathers, first_line, part}
-use Rattle.text.specs.Cuts.{completed_both, remaining_both, after_both, transcript_both}
-use Rattle.text.specs.LaysLaws.{laid_up_to}
-use Rattle.text.specs.declared.lines.Pending.{Pending}
-use Rattle.text.specs.declared.lines.Gathered.{Gathered}
+use Rattle.text.specs.Commands.{first_of, behind}
+use Rattle.text.specs.Gathering.{Pends, first_line}
+use Rattle.text.specs.GatheringLaws.{ends_within, rest_behind, rest-shorter, all_first, completes_none, grows}
+use Rattle.text.specs.Cuts.{completed_both, remaining_both, after_both, transcript_both, line_ends, line_ended}
 use Rattle.serving.specs.Serves.{Serves}
-use Rattle.filestore_text.specs.Parts.{ServesPart, Hands}
+use Rattle.filestore_text.specs.Parts.{Pending, ServesPart, Steps}
 
 -- ---- no line, and one line
 
@@ -35,15 +33,15 @@ module _ (line : List ℕ) (t : Tables) where
 
 -- ---- parts
 
-pub part_none : (p : Pending) (buffer : List ℕ) (t : Tables) (printed : List ℕ) → ServesPart [] p buffer t printed p buffer t printed
+pub part_none : (p : Pending) (t : Tables) (printed : List ℕ) → ServesPart [] p t printed p t printed
 unfolding completed remaining after_lines transcript
-part_none p buffer t printed =
+part_none p t printed =
     record { pends = λ line h. h; leaves = λ line h. refl; prints = λ line h. sym (append-nil printed) }
 
-module _ (xs ys : List ℕ) (p : Pending) (buffer : List ℕ) (t : Tables) (printed : List ℕ) (p₁ : Pending) (buffer₁ : List ℕ) (t₁ : Tables) (printed₁ : List ℕ)
-    (p₂ : Pending) (buffer₂ : List ℕ) (t₂ : Tables) (printed₂ : List ℕ)
-    (first : ServesPart xs p buffer t printed p₁ buffer₁ t₁ printed₁) (second : ServesPart ys p₁ buffer₁ t₁ printed₁ p₂ buffer₂ t₂ printed₂) where
-  pub part-behind : ServesPart (xs ++ ys) p buffer t printed p₂ buffer₂ t₂ printed₂
+module _ (xs ys : List ℕ) (p : Pending) (t : Tables) (printed : List ℕ) (p₁ : Pending) (t₁ : Tables) (printed₁ : List ℕ)
+    (p₂ : Pending) (t₂ : Tables) (printed₂ : List ℕ)
+    (first : ServesPart xs p t printed p₁ t₁ printed₁) (second : ServesPart ys p₁ t₁ printed₁ p₂ t₂ printed₂) where
+  pub part-behind : ServesPart (xs ++ ys) p t printed p₂ t₂ printed₂
   part-behind =
       record {
         pends = λ line h. rw (remaining_both line xs ys) (second.pends (remaining line xs) (first.pends line h));
@@ -57,51 +55,46 @@ module _ (xs ys : List ℕ) (p : Pending) (buffer : List ℕ) (t : Tables) (prin
       }
 
 -- what is printed stands behind any output
-part_onto : (handed bytes : List ℕ) (p : Pending) (buffer : List ℕ) (t : Tables) (p' : Pending) (buffer' : List ℕ) (t' : Tables) (printed : List ℕ)
-    → ServesPart bytes p buffer t [] p' buffer' t' printed → ServesPart bytes p buffer t handed p' buffer' t' (handed ++ printed)
-part_onto handed bytes p buffer t p' buffer' t' printed s =
-    record { pends = s.pends; leaves = s.leaves; prints = λ line h. ap (λ out. handed ++ out) (s.prints line h) }
-
--- ---- what was handed to write
-
-pub hands_none : (p : Pending) (buffer : List ℕ) (t : Tables) → Hands [] p buffer t p buffer t
-hands_none p buffer t = record { handed = []; serves = part_none p buffer t [] }
-
-module _ (xs ys : List ℕ) (p : Pending) (buffer : List ℕ) (t : Tables) (p₁ : Pending) (buffer₁ : List ℕ) (t₁ : Tables) (p₂ : Pending) (buffer₂ : List ℕ) (t₂ : Tables)
-    (first : Hands xs p buffer t p₁ buffer₁ t₁) (second : Hands ys p₁ buffer₁ t₁ p₂ buffer₂ t₂) where
-  pub hands_behind : Hands (xs ++ ys) p buffer t p₂ buffer₂ t₂
-  hands_behind =
-      record {
-        handed = first.handed ++ second.handed;
-        serves = part-behind xs ys p buffer t [] p₁ buffer₁ t₁ first.handed p₂ buffer₂ t₂ (first.handed ++ second.handed) first.serves
-            (part_onto first.handed ys p₁ buffer₁ t₁ p₂ buffer₂ t₂ second.handed second.serves);
-      }
+pub part_onto : (handed bytes : List ℕ) (p : Pending) (t : Tables) (out : List ℕ) (p' : Pending) (t' : Tables) (out' : List ℕ)
+    → ServesPart bytes p t out p' t' out' → ServesPart bytes p t (handed ++ out) p' t' (handed ++ out')
+part_onto handed bytes p t out p' t' out' s =
+    record {
+      pends = s.pends;
+      leaves = s.leaves;
+      prints = λ line h. ap (λ x. handed ++ x) (s.prints line h) ∙ sym (append_assoc handed out (transcript (completed line bytes) t));
+    }
 
 -- ---- the next line of a piece
 
-module _ (p : Pending) (buffer piece : List ℕ) (from : ℕ) (after : List ℕ) (g : Gathered) (gathers : Gathers buffer p piece from after g) (t : Tables) (out : List ℕ) (at : ℕ) where
+module _ (piece : List ℕ) (p : Pending) (t : Tables) (out : List ℕ) (g : Pending)
+    (appends : (before : List ℕ) → Pends before p → Pends (before ++ first_line piece) g) where
   -- the piece ends within the line
-  pub part-open : g.complete ≡ false → ServesPart (part piece from g.at) p buffer t (take at out) g.line after t (take at out)
+  pub part-open : behind newline piece ≡ None → Steps piece p t out g t out None
   part-open e =
-      let none : (line : List ℕ) → completed line (part piece from g.at) ≡ [] = λ line. rw e at (gathers.completes line) in
-      let rest : (line : List ℕ) → remaining line (part piece from g.at) ≡ line ++ first_line _ = λ line. rw e at (gathers.leaves line) in
       record {
-        pends = λ line h. rw (rest line) (gathers.appends.grows line h);
-        leaves = λ line h. rw (none line) (sym (no_lines t));
-        prints = λ line h. rw (none line, no_output t) (sym (append-nil (take at out)));
+        part = piece;
+        all = sym (append-nil piece);
+        serves = record {
+          pends = λ line h. rw (grows piece e line) (rw (all_first piece e) at (appends line h));
+          leaves = λ line h. rw (completes_none piece e line) (sym (no_lines t));
+          prints = λ line h. rw (completes_none piece e line, no_output t) (sym (append-nil out));
+        };
+        moves = tt;
       }
 
   -- the line ends, and is served
-  pub part_line : g.complete ≡ true → (start : Pending) → Pends [] start after → (t' : Tables) (out' : List ℕ) (next : ℕ)
-      → ((bytes : List ℕ) → Pends bytes g.line after → Serves (asked bytes) t out at t' out' next)
-      → ServesPart (part piece from g.at) p buffer t (take at out) start after t' (take next out')
-  part_line e start f t' out' next s =
-      let whole : List ℕ → List ℕ = λ line. line ++ first_line _ in
-      let one : (line : List ℕ) → completed line (part piece from g.at) ≡ whole line ∷ [] = λ line. rw e at (gathers.completes line) in
-      let none : (line : List ℕ) → remaining line (part piece from g.at) ≡ [] = λ line. rw e at (gathers.leaves line) in
-      let serves : (line : List ℕ) → Pends line p buffer → Serves (asked (whole line)) t out at t' out' next = λ line h. s (whole line) (gathers.appends.grows line h) in
+  pub part_line : (rest : List ℕ) → behind newline piece ≡ Some rest → (p' : Pending) → Pends [] p' → (t' : Tables) (out' : List ℕ)
+      → ((bytes : List ℕ) → Pends bytes g → Serves (asked bytes) t out t' out') → Steps piece p t out p' t' out' (Some rest)
+  part_line rest e p' f t' out' s =
+      let within = ends_within piece rest e in
+      let serves : (line : List ℕ) → Pends line p → Serves (asked (line ++ first_line piece)) t out t' out' = λ line h. s (line ++ first_line piece) (appends line h) in
       record {
-        pends = λ line h. rw (none line) f;
-        leaves = λ line h. rw (one line, one_line (whole line) t) (serves line h).leaves;
-        prints = λ line h. rw (one line, one_output (whole line) t) (laid_up_to _ _ _ _ _ (serves line h).lays);
+        part = take (first_of newline piece + 1) piece;
+        all = rest_behind piece rest e;
+        serves = record {
+          pends = λ line h. rw (line_ended piece line within) f;
+          leaves = λ line h. rw (line_ends piece line within, one_line (line ++ first_line piece) t) (serves line h).leaves;
+          prints = λ line h. rw (line_ends piece line within, one_output (line ++ first_line piece) t) ((serves line h).prints ∙ append_assoc out _ (newline ∷ []));
+        };
+        moves = rest-shorter piece rest e;
       }

@@ -1,54 +1,64 @@
 -- The input served part by part. A part may end anywhere, within a line too.
-use Rattle.std.specs.Prelude.{ℕ, ◌≤◌, ◌<◌, ◌≡◌, List, [], ◌++◌, Bool, true, false, length, take}
-use Rattle.meaning.specs.Tables.{Tables}
-use Rattle.text.specs.Line.{longest_line}
+use Rattle.std.specs.Prelude.{ℕ, ◌<◌, ◌≡◌, List, [], ◌++◌, Bool, true, false, Option, IfSome, Result, OnOk, length}
+use Rattle.std.specs.Option.{unwrap_or}
+use Rattle.std.specs.Io.KnownBytes.{Appends}
+use Rattle.arrayvec.specs.ArrayVec.{ArrayVec}
+use Rattle.meaning.specs.Tables.{Tables, tables}
 use Rattle.text.specs.Print.{transcript}
 use Rattle.text.specs.Program.{completed, remaining, unended, lines, after_lines, at_start}
-use Rattle.text.specs.Gathering.{Pends, part}
-use Rattle.text.specs.declared.lines.Pending.{Pending}
-use Rattle.filestore_text.specs.declared.pieces.Step.{Step}
-use Rattle.filestore_text.specs.declared.Rest.{Rest}
-use Rattle.filestore_text.specs.declared.Piece.{Piece}
+use Rattle.text.specs.Gathering.{Pends}
+use Rattle.filestore_text.specs.declared.Store.{Store}
+
+-- the tables of the program's store
+abbrev pub tables_in : Store → Tables
+tables_in store = tables store.blocks store.block_records store.file_records store.channel_records
+
+-- a line so far, as the code keeps it
+abbrev pub Pending : Type 0
+Pending = Option (ArrayVec ℕ)
 
 -- A part of the input served, from one moment to a later one. Whatever line has come before the part: the tables are those that
 -- the lines that end in it leave, what they print stands behind what was printed, and what is left of the part is the line so far.
-pub record ServesPart (bytes : List ℕ) (p : Pending) (buffer : List ℕ) (t : Tables) (printed : List ℕ)
-    (p' : Pending) (buffer' : List ℕ) (t' : Tables) (printed' : List ℕ) : Type 0 where
-  pub pends : (line : List ℕ) → Pends line p buffer → Pends (remaining line bytes) p' buffer'
-  pub leaves : (line : List ℕ) → Pends line p buffer → t' ≡ after_lines (completed line bytes) t
-  pub prints : (line : List ℕ) → Pends line p buffer → printed' ≡ printed ++ transcript (completed line bytes) t
+pub record ServesPart (bytes : List ℕ) (p : Pending) (t : Tables) (printed : List ℕ) (p' : Pending) (t' : Tables) (printed' : List ℕ) : Type 0 where
+  pub pends : (line : List ℕ) → Pends line p → Pends (remaining line bytes) p'
+  pub leaves : (line : List ℕ) → Pends line p → t' ≡ after_lines (completed line bytes) t
+  pub prints : (line : List ℕ) → Pends line p → printed' ≡ printed ++ transcript (completed line bytes) t
 
--- A step through a piece: the place moves on, and the bytes up to there are served. The output is the first bytes of `out`.
-pub record Steps (p : Pending) (piece : List ℕ) (from at : ℕ) (buffer : List ℕ) (t : Tables) (out buffer' : List ℕ) (t' : Tables) (out' : List ℕ) (r : Step) : Type 0 where
-  pub holds : r.line.len ≤ longest_line
-  pub moves : from < r.from
-  pub within : r.from ≤ length piece
-  pub fits : r.at ≤ length out'
-  pub serves : ServesPart (part piece from r.from) p buffer t (take at out) r.line buffer' t' (take r.at out')
+-- A step through a piece: a part at its head is served, behind which `rest` is left. What is printed waits in the output.
+pub record Steps (piece : List ℕ) (p : Pending) (t : Tables) (out : List ℕ) (p' : Pending) (t' : Tables) (out' : List ℕ) (rest : Option (List ℕ)) : Type 0 where
+  pub part : List ℕ
+  pub all : piece ≡ part ++ unwrap_or rest []
+  pub serves : ServesPart part p t out p' t' out'
+  pub moves : IfSome rest (λ bytes. length bytes < length piece)
 
--- A part served by any number of steps, each of which hands its output to write: `handed` is all of it, one step's behind another's.
--- No value of the program holds that row, so it is only said to be there; what one step hands over is `out`'s own bytes (`Steps`).
-pub record Hands (bytes : List ℕ) (p : Pending) (buffer : List ℕ) (t : Tables) (p' : Pending) (buffer' : List ℕ) (t' : Tables) : Type 0 where
-  pub handed : List ℕ
-  pub serves : ServesPart bytes p buffer t [] p' buffer' t' handed
+-- The line that the input's end ends, if there is one, is served.
+pub record PrintsLast (p : Pending) (t : Tables) (out : List ℕ) (t' : Tables) (out' : List ℕ) : Type 0 where
+  pub leaves : (line : List ℕ) → Pends line p → t' ≡ after_lines (unended line) t
+  pub prints : (line : List ℕ) → Pends line p → out' ≡ out ++ transcript (unended line) t
 
--- A piece served up to a place: to its end where the program goes on. A failed write ends it earlier, and the bytes up to there are served all the same.
-pub record ServesPiece (piece : List ℕ) (p : Pending) (buffer : List ℕ) (t : Tables) (buffer' : List ℕ) (t' : Tables) (r : Rest) : Type 0 where
-  pub holds : r.line.len ≤ longest_line
-  pub within : r.from ≤ length piece
-  pub whole : r.going ≡ true → r.from ≡ length piece
-  pub hands : Hands (take r.from piece) p buffer t r.line buffer' t'
+-- ---- written: bytes that a writer holds are known at both moments, or nothing is said of them
 
--- The same of what has been read: so many bytes at the start of the piece buffer.
-pub record ServesRead (p : Pending) (buffer : List ℕ) (t : Tables) (piece buffer' : List ℕ) (t' : Tables) (r : Piece) : Type 0 where
-  pub within : r.read ≤ length piece
-  pub serves : ServesPiece (take r.read piece) p buffer t buffer' t' r.rest
+-- what waited in the output is written, up to what waits still
+pub record Hands (held : Option (List ℕ)) (out : List ℕ) (held' : Option (List ℕ)) (out' : List ℕ) : Type 0 where
+  pub written : List ℕ
+  pub appends : Appends held held' written
+  pub all : out ≡ written ++ out'
 
--- The line that the input's end ends, if there is one, is served. The output is the first bytes of `out`.
-pub record ServesLast (p : Pending) (buffer : List ℕ) (t t' : Tables) (out' : List ℕ) (n : ℕ) : Type 0 where
-  pub fits : n ≤ length out'
-  pub leaves : (line : List ℕ) → Pends line p buffer → t' ≡ after_lines (unended line) t
-  pub prints : (line : List ℕ) → Pends line p buffer → take n out' ≡ transcript (unended line) t
+-- A piece served up to a place: to its end, and with all that is printed written, where no write fails. A failed write ends it earlier,
+-- and the bytes up to there are served all the same.
+pub record ServesPiece {E : Type 0} (piece : List ℕ) (p : Pending) (t : Tables) (p' : Pending) (t' : Tables) (held held' : Option (List ℕ)) (r : Result (Unit {0}) E) : Type 0 where
+  pub part : List ℕ
+  pub rest : List ℕ
+  pub printed : List ℕ
+  pub all : piece ≡ part ++ rest
+  pub serves : ServesPart part p t [] p' t' printed
+  pub whole : OnOk r (rest ≡ [])
+  pub writes : OnOk r (Appends held held' printed)
+
+-- The same of the line that the input's end ends.
+pub record ServesLast {E : Type 0} (p : Pending) (t t' : Tables) (held held' : Option (List ℕ)) (r : Result (Unit {0}) E) : Type 0 where
+  pub leaves : (line : List ℕ) → Pends line p → t' ≡ after_lines (unended line) t
+  pub writes : (line : List ℕ) → Pends line p → OnOk r (Appends held held' (transcript (unended line) t))
 
 -- ---- all of the input
 
@@ -58,7 +68,7 @@ served_of true input = lines input
 served_of false input = completed [] input
 
 -- `input` is all that was read and served, and `handed` all that was handed to write (`written input` where it has ended). Both are only said to be there:
--- that a piece is what stands in the piece buffer is said by the call that read it (`ServesRead`).
+-- where it is known which bytes a reader has left and a writer holds, `MovesAll` names them.
 pub record ServesInput (t : Tables) (ended : Bool) : Type 0 where
   pub input : List ℕ
   pub handed : List ℕ

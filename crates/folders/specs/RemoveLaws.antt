@@ -13,6 +13,7 @@ use Rattle.meaning.specs.Tables.{Tables, store_of}
 use Rattle.meaning.specs.Result.{done, unless}
 use Rattle.meaning.specs.Run.{Call, result_of, meaning, accepts}
 use Rattle.meaning.specs.NameCalls.{parent, record_for, rewritten, unnaming, rmdir}
+use Rattle.meaning.specs.declared.FileNo.{FileNo}
 use Rattle.soundness.specs.Well.{Well}
 use Rattle.soundness.specs.WellFacts.{directory-form}
 use Rattle.lookup.specs.Filed.{sound_well}
@@ -20,12 +21,12 @@ use Rattle.trees.specs.Standing.{Standing, some_syllable}
 use Rattle.keeping.specs.Sure.{Sure, Good}
 use Rattle.keeping.proofs.Named.{other_standing}
 use Rattle.keeping.proofs.OnNames.{good-rmdir}
-use Rattle.naming.specs.At.{At, not_missing}
+use Rattle.naming.specs.At.{At, not_missing, old_dir, stands_for}
 use Rattle.naming.specs.declared.Located.{Located}
+use Rattle.naming.specs.declared.Located.TheVariants.{Old}
 use Rattle.placing.specs.Free.{sized}
 use Rattle.folders.specs.Acts.{Able, able}
 use Rattle.folders.specs.Remove.{planned}
-use Rattle.folders.specs.declared.Removing.TheVariants.{Of}
 
 -- ---- a directory is empty exactly where it has no names
 
@@ -53,7 +54,7 @@ module _ (dir : List ℕ) where
 
 -- ---- a name that was located
 
-module _ (t : Tables) (bytes : List ℕ) (k : ℕ) (x : Located) (a : At t bytes k x) (some : x.file.0 ≢ 0) (not-one : x.file.0 ≢ 1) where
+module _ (t : Tables) (bytes : List ℕ) (k : ℕ) (x : Located) (a : At t bytes k x) (d f : FileNo) (old : x ≡ Old d f) (not-one : f.0 ≢ 1) where
   abbrev s : Store
   s = store_of t
 
@@ -61,16 +62,16 @@ module _ (t : Tables) (bytes : List ℕ) (k : ℕ) (x : Located) (a : At t bytes
   w = sound_well t a.ok
 
   other : named s a.name ≢ root
-  other e = not-one (a.stands ∙ e)
+  other e = not-one (stands_for t bytes k x a d f old ∙ e)
 
   pub deep : k ≢ 0
   deep e = omega (arith, some_syllable s a.name other, a.count)
 
   pub stands : Standing s a.name
-  stands = other_standing s w (sized t a.ok) bytes a.name a.is (not_missing t bytes k x a some) other
+  stands = other_standing s w (sized t a.ok) bytes a.name a.is (not_missing t bytes k x a d f old) other
 
-  pub in_directory_lem : is_directory s x.parent.0 ≡ true
-  in_directory_lem = ap (is_directory s) a.dir ∙ stands.place.directory
+  pub in_directory_lem : is_directory s d.0 ≡ true
+  in_directory_lem = ap (is_directory s) (old_dir t bytes k x a d f old) ∙ stands.place.directory
 
   module _ (i : ℕ) (found : i ≡ record_for s a.name) where
     pub small : i < 65536
@@ -78,15 +79,15 @@ module _ (t : Tables) (bytes : List ℕ) (k : ℕ) (x : Located) (a : At t bytes
         let l : record_for s a.name < record_count (s.file (parent s a.name)).bytes = stands.there in
         omega (arith, (directory-form s w (parent s a.name) stands.place.directory).size)
 
-    pub planned_is : planned t (Of x.parent i x.file) ≡ done [] [] (file (parent s a.name) (unnaming s a.name) ∷ file (named s a.name) no_file ∷ [])
+    pub planned_is : planned t (d, i, f) ≡ done [] [] (file (parent s a.name) (unnaming s a.name) ∷ file (named s a.name) no_file ∷ [])
     unfolding unnaming
-    planned_is = rw (a.dir, found, a.stands)
+    planned_is = rw (old_dir t bytes k x a d f old, found, stands_for t bytes k x a d f old)
 
     -- what is planned, where it is what rmdir gives, can be done
-    pub can : planned t (Of x.parent i x.file) ≡ result_of (Call.Rmdir bytes) t → Able t x.parent.0 i blank_record x.file.0
+    pub can : planned t (d, i, f) ≡ result_of (Call.Rmdir bytes) t → Able t d.0 i blank_record f.0
     unfolding result_of meaning accepts unless
     can e =
-        let given : planned t (Of x.parent i x.file) ≡ rmdir bytes s = rw a.ok at e in
-        let sure : Sure s (file x.parent.0 (rewritten s x.parent.0 i blank_record) ∷ file x.file.0 no_file ∷ []) =
+        let given : planned t (d, i, f) ≡ rmdir bytes s = rw a.ok at e in
+        let sure : Sure s (file d.0 (rewritten s d.0 i blank_record) ∷ file f.0 no_file ∷ []) =
         subst (Good s) (sym given) (good-rmdir s w (sized t a.ok) bytes) in
-        able t a.ok x.parent.0 i blank_record x.file.0 no_file sure in_directory_lem small
+        able t a.ok d.0 i blank_record f.0 no_file sure in_directory_lem small

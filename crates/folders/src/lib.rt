@@ -1,7 +1,9 @@
 // The calls that make and remove directories.
+// Tables that are changed are taken one by one; `channels` says why.
 #![tactic(auto)]
 
 ghost use Rattle.meaning.specs.Tables.{tables};
+ghost use Rattle.meaning.specs.Types.{tables_of};
 ghost use Rattle.meaning.specs.Run.{Keeps, Call};
 ghost use Rattle.meaning.specs.Answers.{reported};
 ghost use Rattle.folders.specs.Remove.{Removed};
@@ -10,56 +12,32 @@ ghost use Rattle.folders.specs.Make.{NewName, Made};
 use files::clear_file;
 use listing::count_names;
 use lookup::record_count;
-use meaning::{FileNo, MOST_SYLLABLES, Report};
-use naming::{Judged, Located, judge_name, locate, record_for};
-use recording::{Fit, give_name, record_fits, take_name};
+use meaning::{FileNo, Kind, Lent, MOST_SYLLABLES, Report};
+use naming::{Located, judge_name, locate, new_record, own_record};
+use recording::{give_name, record_fits, take_name};
 use soundness::is_directory;
-use tables::{FoundFile, file_record, find_file, is_held};
+use tables::{file_record, find_file, is_held};
 
-// What rmdir decides: the record that is made blank, by its directory and its place, and the directory that goes; or a refusal.
-#[derive(Clone, Copy)]
-pub enum Removing {
-    Of(FileNo, usize, FileNo),
-    No(Report),
-}
-
-// The refusals of rmdir in their order, or the name's record and its directory.
-fn decide_rmdir(
-    blocks: &[u8],
-    block_records: &[u8],
-    file_records: &[u8],
-    channel_records: &[u8],
-    name: &[u8],
-) -> Removing
-    ensures { Removed (tables blocks.now block_records.now file_records.now channel_records.now) name.now result }
+// The refusals of rmdir in their order; or the record that is made blank, by its directory and its place, and the directory that goes.
+fn decide_rmdir(store: &Lent, name: &[u8]) -> Result<(FileNo, usize, FileNo), Report>
+    ensures { Removed (tables_of store.now) name.now result }
 {
-    let judged = judge_name(blocks, block_records, file_records, channel_records, name);
-    match judged {
-        Judged::Refused(why) => Removing::No(why),
-        Judged::Syllables(k) => {
-            let at = locate(blocks, block_records, file_records, name, k);
-            let d = at.parent;
-            let f = at.file;
-            if f.0 == 0 {
-                return Removing::No(Report::NoSuchName);
-            }
-            if !is_directory(file_records, f) {
-                return Removing::No(Report::NotDirectory);
-            }
-            if f.0 == 1 {
-                return Removing::No(Report::InUse);
-            }
-            if is_held(channel_records, f) {
-                return Removing::No(Report::InUse);
-            }
-            let count = record_count(file_records, f);
-            if count_names(blocks, block_records, f, count) != 0 {
-                return Removing::No(Report::NotEmpty);
-            }
-            let i = record_for(blocks, block_records, file_records, name, at);
-            Removing::Of(d, i, f)
-        }
+    let k = judge_name(store, name)?;
+    let Located::Old(d, f) = locate(store, name, k) else {
+        return Err(Report::NoSuchName);
+    };
+    if !is_directory(store.file_records, f) {
+        return Err(Report::NotDirectory);
     }
+    if f == FileNo::ROOT || is_held(store.channel_records, f) {
+        return Err(Report::InUse);
+    }
+    let count = record_count(store.file_records, f);
+    if count_names(store, f, count) != 0 {
+        return Err(Report::NotEmpty);
+    }
+    let i = own_record(store, name, d);
+    Ok((d, i, f))
 }
 
 // Removes a directory that has no names.
@@ -69,87 +47,46 @@ pub fn rmdir(
     file_records: &mut [u8],
     channel_records: &[u8],
     name: &[u8],
-) -> Report
+) -> Result<(), Report>
     ensures { Keeps (Call.Rmdir name.now) (tables blocks.old block_records.old file_records.old channel_records.now) (tables blocks.new block_records.new file_records.new channel_records.now) (reported result) }
 {
-    let decided = decide_rmdir(blocks, block_records, file_records, channel_records, name);
-    match decided {
-        Removing::No(why) => why,
-        Removing::Of(d, i, f) => {
-            take_name(blocks, block_records, file_records, d, i);
-            clear_file(block_records, file_records, f, 0, 0);
-            Report::Ok
-        }
-    }
-}
-
-// What mkdir decides: the record that gets the name, by its directory and its place, the new directory and its depth; or a refusal.
-#[derive(Clone, Copy)]
-pub enum Making {
-    Of(FileNo, usize, FileNo, u8),
-    No(Report),
-}
-
-// The refusals of mkdir for a new name in a directory, in their order, or where the name's record goes and the lowest free file.
-fn decide_new(
-    blocks: &[u8],
-    block_records: &[u8],
-    file_records: &[u8],
-    channel_records: &[u8],
-    name: &[u8],
-    at: Located,
-) -> Making
-    requires { NewName blocks.now block_records.now file_records.now channel_records.now name.now at }
-    ensures { Made (tables blocks.now block_records.now file_records.now channel_records.now) name.now result }
-{
-    let d = at.parent;
-    let FoundFile::At(new) = find_file(file_records, 0) else {
-        return Making::No(Report::NoFreeFids);
+    let store = Lent {
+        blocks,
+        block_records,
+        file_records,
+        channel_records,
     };
-    let i = record_for(blocks, block_records, file_records, name, at);
-    let depth = file_record(file_records, d).depth;
-    let fit = record_fits(block_records, file_records, d, i);
-    match fit {
-        Fit::No(why) => Making::No(why),
-        Fit::Fits => Making::Of(d, i, new, depth + 1),
-    }
+    let (d, i, f) = decide_rmdir(&store, name)?;
+    take_name(blocks, block_records, file_records, d, i);
+    clear_file(block_records, file_records, f, Kind::Free as u8, 0);
+    Ok(())
+}
+
+// The refusals of mkdir for a name that is new in directory d, in their order; or that directory, the place of the name's record, the
+// lowest free file and its depth as a directory.
+fn decide_new(store: &Lent, name: &[u8], d: FileNo) -> Result<(FileNo, usize, FileNo, u8), Report>
+    requires { NewName (tables_of store.now) name.now d }
+    ensures { Made (tables_of store.now) name.now result }
+{
+    let new = find_file(store.file_records, Kind::Free).ok_or(Report::NoFreeFids)?;
+    let i = new_record(store, name, d);
+    record_fits(store, d, i)?;
+    let depth = file_record(store.file_records, d).depth;
+    Ok((d, i, new, depth + 1))
 }
 
 // The refusals of mkdir in their order, or how it goes.
-fn decide_mkdir(
-    blocks: &[u8],
-    block_records: &[u8],
-    file_records: &[u8],
-    channel_records: &[u8],
-    name: &[u8],
-) -> Making
-    ensures { Made (tables blocks.now block_records.now file_records.now channel_records.now) name.now result }
+fn decide_mkdir(store: &Lent, name: &[u8]) -> Result<(FileNo, usize, FileNo, u8), Report>
+    ensures { Made (tables_of store.now) name.now result }
 {
-    let judged = judge_name(blocks, block_records, file_records, channel_records, name);
-    match judged {
-        Judged::Refused(why) => Making::No(why),
-        Judged::Syllables(k) => {
-            if k == MOST_SYLLABLES {
-                return Making::No(Report::BadName);
-            }
-            let at = locate(blocks, block_records, file_records, name, k);
-            let d = at.parent;
-            let f = at.file;
-            if f.0 != 0 {
-                return Making::No(Report::NameInUse);
-            }
-            if !is_directory(file_records, d) {
-                return Making::No(Report::NoSuchName);
-            }
-            decide_new(
-                blocks,
-                block_records,
-                file_records,
-                channel_records,
-                name,
-                at,
-            )
-        }
+    let k = judge_name(store, name)?;
+    if k == MOST_SYLLABLES {
+        return Err(Report::BadName);
+    }
+    match locate(store, name, k) {
+        Located::Nowhere => Err(Report::NoSuchName),
+        Located::Old(_, _) => Err(Report::NameInUse),
+        Located::New(d) => decide_new(store, name, d),
     }
 }
 
@@ -160,16 +97,17 @@ pub fn mkdir(
     file_records: &mut [u8],
     channel_records: &[u8],
     name: &[u8],
-) -> Report
+) -> Result<(), Report>
     ensures { Keeps (Call.Mkdir name.now) (tables blocks.old block_records.old file_records.old channel_records.now) (tables blocks.new block_records.new file_records.new channel_records.now) (reported result) }
 {
-    let decided = decide_mkdir(blocks, block_records, file_records, channel_records, name);
-    match decided {
-        Making::No(why) => why,
-        Making::Of(d, i, f, depth) => {
-            give_name(blocks, block_records, file_records, d, i, f, name);
-            clear_file(block_records, file_records, f, 2, depth);
-            Report::Ok
-        }
-    }
+    let store = Lent {
+        blocks,
+        block_records,
+        file_records,
+        channel_records,
+    };
+    let (d, i, f, depth) = decide_mkdir(&store, name)?;
+    give_name(blocks, block_records, file_records, d, i, f, name);
+    clear_file(block_records, file_records, f, Kind::Directory as u8, depth);
+    Ok(())
 }

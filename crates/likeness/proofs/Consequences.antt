@@ -1,5 +1,5 @@
 -- What follows: nothing but the store is ever seen, a gap reads as zeros, and no constant program keeps the promise.
-use Rattle.std.specs.Prelude.{ℕ, ◌≤◌, ◌<◌, ◌≡◌, refl, ◌≢◌, Bool, length, get_or, ltb}
+use Rattle.std.specs.Prelude.{ℕ, ◌≤◌, ◌<◌, ◌≡◌, refl, ◌≢◌, Bool, length, get_or, ltb, Ok, Err}
 use Rattle.std.proofs.Common.{ap, sym, ◌∙◌, true≢false, arith, eq-eqb}
 use mathlib.Core.List.{List, [], ◌∷◌}
 use Rattle.std.proofs.Math.Bool.{true, false}
@@ -12,14 +12,14 @@ use Rattle.meaning.specs.Result.{Result, refused, unless, on_channel, if_fits}
 use Rattle.meaning.specs.ChannelCalls.{close, write}
 use Rattle.meaning.specs.Tables.{Tables, store_of}
 use Rattle.meaning.specs.Sound.{sound}
-use Rattle.meaning.specs.Run.{Call, Prepare, Open, Close, Write, meaning, result_of, answer_of, changes_of, Answer, accepted, number_of, run}
+use Rattle.meaning.specs.Run.{Call, Prepare, Open, Close, Write, meaning, result_of, answer_of, changes_of, Answer, accepted, number_of, refusal, run}
 use Rattle.meaning.specs.Answers.{reported}
 use Rattle.meaning.proofs.AnswerLaws.{never_accepted}
 use Rattle.meaning.proofs.Refusals.{refusal-alone}
 use Rattle.meaning.specs.Running.{step, zeroed, wrong}
 use Rattle.meaning.specs.Text.{text}
 use Rattle.meaning.specs.declared.Report.{Report}
-use Rattle.meaning.specs.declared.Report.TheVariants.{Ok, NoSuchCid}
+use Rattle.meaning.specs.declared.Report.TheVariants.{NoSuchCid}
 use Rattle.keeping.proofs.Proofs.{sound_kept}
 use Rattle.likeness.specs.Alike.{Listed, Alike, AlikeStores, same, listed_after, left}
 use Rattle.likeness.proofs.Leaving.{unless_either}
@@ -93,13 +93,13 @@ module _ (s : Store) (c : ℕ) (bytes : List ℕ) where
 -- ---- closing a channel
 
 module _ (s : Store) (c : ℕ) where
-  open-close : is_open s c ≡ true → answer_of 0 (close c s) ≡ reported Ok
+  open-close : is_open s c ≡ true → answer_of 0 (close c s) ≡ reported (Ok tt)
   unfolding close on_channel unless answer_of
   open-close is = rw is
 
-  closed-close : is_open s c ≡ false → answer_of 0 (close c s) ≡ reported NoSuchCid
-  unfolding close on_channel unless answer_of
-  closed-close isnt = rw isnt (refusal-alone NoSuchCid)
+  closed-close : is_open s c ≡ false → answer_of 0 (close c s) ≡ reported (Err NoSuchCid)
+  unfolding close on_channel unless answer_of number_of
+  closed-close isnt = rw isnt (refusal-alone NoSuchCid refl)
 
   freed : is_open s c ≡ true → ((left (Close c) s).channel c).file ≡ 0
   unfolding meaning close on_channel unless changes_of after_all after let_go
@@ -141,7 +141,7 @@ gap_reads_zero t c bytes buffer n k e told-so past before =
 
 -- the same call again has another answer: no constant keeps the promise
 pub close_twice : (t : Tables) (c : ℕ) (buffer : List ℕ) → sound t ≡ true → is_open (store_of t) c ≡ true
-    → (answer_of 0 (result_of (Close c) t) ≡ reported Ok) × (answer_of 0 (result_of (Close c) (run (Close c) t buffer).tables) ≡ reported NoSuchCid)
+    → (answer_of 0 (result_of (Close c) t) ≡ reported (Ok tt)) × (answer_of 0 (result_of (Close c) (run (Close c) t buffer).tables) ≡ reported (Err NoSuchCid))
 unfolding meaning
 close_twice t c buffer e is =
     let u = (run (Close c) t buffer).tables in
@@ -152,7 +152,7 @@ close_twice t c buffer e is =
 
 -- and so does no program that leaves the tables as they are
 pub tables-change : (t : Tables) (c : ℕ) (buffer : List ℕ) → sound t ≡ true → is_open (store_of t) c ≡ true → (run (Close c) t buffer).tables ≢ t
-unfolding number_of
+unfolding number_of refusal
 tables-change t c buffer e is unchanged =
     let (first, again) = close_twice t c buffer e is in
     let z : ◌≡◌ {A = ℕ} 0 3 = cc (ap (λ (u : Tables). answer_of 0 (result_of (Close c) u)) unchanged) in omega arith

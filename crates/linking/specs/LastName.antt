@@ -1,5 +1,5 @@
 -- Whether the old name's file goes, where a move takes its name from the store that link leaves.
-use Rattle.std.specs.Prelude.{ℕ, ◌+◌, ◌≡◌, refl, ◌≢◌, List, Bool, ◌&&◌}
+use Rattle.std.specs.Prelude.{ℕ, ◌+◌, ◌≡◌, refl, ◌≢◌, List, ◌&&◌}
 use Rattle.std.proofs.Common.{sym, ◌∙◌, arith}
 use Rattle.std.proofs.Math.Path.{ap}
 use Rattle.std.proofs.Math.Logic.{⊎_elim}
@@ -19,8 +19,9 @@ use Rattle.trees.proofs.LetGo.{let_going_lem, let_go_directory, let_go_file}
 use Rattle.trees.proofs.Linked.{linked}
 use Rattle.trees.specs.Orphans.{names_less}
 use Rattle.trees.proofs.Orphans.{orphan_unlinked}
-use Rattle.linking.specs.Link.{lone, Accepted}
-use Rattle.linking.specs.Act.{link_changes, last_goes}
+use Rattle.linking.specs.Link.{Accepted}
+use Rattle.linking.specs.Gone.{lone}
+use Rattle.linking.specs.Act.{link_changes}
 use Rattle.linking.specs.ActLaws as L
 use Rattle.linking.specs.declared.Plan.{Plan}
 use Rattle.linking.specs.MoveLaws as M
@@ -30,10 +31,10 @@ module _ (t : Tables) (old new : List ℕ) (p : Plan) (a : Accepted t old new p)
   s = store_of t
 
   abbrev from : List (List ℕ)
-  from = a.both.old-name.at.name
+  from = a.old-name.name
 
   abbrev to : List (List ℕ)
-  to = a.both.new-name.at.name
+  to = a.new-name.name
 
   abbrev f : ℕ
   f = named s from
@@ -71,14 +72,7 @@ module _ (t : Tables) (old new : List ℕ) (p : Plan) (a : Accepted t old new p)
       let own : tally (eqb f f) ≡ 1 = ap tally (eq-eqb f f refl) in
       omega (arith, ap (λ (u : Store). names u f) (M.after_is t old new p a), linked-names, names-named s to (M.place t old new p a) f (M.small t old new p a) f (M.some t old new p a), own)
 
-  last_is : last_goes p ≡ lone s g && eqb g f
-  unfolding last_goes
-  last_is =
-      ap (λ (l : Bool). l && eqb p.to.file.0 p.from.file.0) a.alone
-      ∙ ap (λ (h : ℕ). lone s h && eqb h p.from.file.0) a.both.new-name.at.stands
-      ∙ ap (λ (h : ℕ). lone s g && eqb g h) a.both.old-name.at.stands
-
-  orphan_moved : eqb (names after-link f) 1 && not (held after-link f) ≡ last_goes p
+  orphan_moved : eqb (names after-link f) 1 && not (held after-link f) ≡ lone s g && eqb g f
   unfolding lone
   orphan_moved =
       let holders : held after-link f ≡ held s f = ap (λ (u : Store). held u f) (M.after_is t old new p a) ∙ linked-held in
@@ -86,14 +80,14 @@ module _ (t : Tables) (old new : List ℕ) (p : Plan) (a : Accepted t old new p)
       (λ (e : g ≡ f).
       let one : tally (eqb g f) ≡ 1 = ap tally (eq-eqb g f e) in
       let same : names after-link f ≡ names s f = omega (arith, count-names) in
-      rw (same, holders) (sym (last_is ∙ rw (eq-eqb g f e, e, ne_eqb f 0 (M.some t old new p a)) (and-true (eqb (names s f) 1 && not (held s f))))))
+      rw (same, holders) (sym (rw (eq-eqb g f e, e, ne_eqb f 0 (M.some t old new p a)) (and-true (eqb (names s f) 1 && not (held s f))))))
       (λ (n : g ≢ f).
       let none : tally (eqb g f) ≡ 0 = ap tally (ne_eqb g f n) in
       let more : names after-link f ≢ 1 = omega (arith, count-names, names_less s (L.well t old new p a) from (M.standing_from t old new p a)) in
-      rw (ne_eqb (names after-link f) 1 more) (sym (last_is ∙ rw (ne_eqb g f n) (and_false (lone s g)))))
+      rw (ne_eqb (names after-link f) 1 more) (sym (rw (ne_eqb g f n) (and_false (lone s g)))))
       (same_or_not g f)
 
-  pub last_orphan : is_orphan (without_name after-link from) f ≡ last_goes p
+  pub last_orphan : is_orphan (without_name after-link from) f ≡ lone s g && eqb g f
   last_orphan =
       ap (is_orphan (without_name after-link from)) (sym (M.after-named t old new p a))
       ∙ orphan_unlinked after-link (M.after_well t old new p a) from (M.after_standing t old new p a) (M.after_plain t old new p a)

@@ -1,11 +1,15 @@
 pub mod Names
+pub mod NewName
+pub mod NewLaws
 pub mod Link
 pub mod LinkRest
 pub mod LinkLaws
 pub mod Act
+pub mod Gone
 pub mod ActLaws
 pub mod ThenGo
 pub mod MoveLaws
 pub mod LastName
 pub mod Move
 pub mod MoveActs
+pub mod MoveDecision

@@ -1,45 +1,47 @@
 -- Link: what its decision stands for.
-use Rattle.std.specs.Prelude.{ℕ, ◌-◌, ◌≤◌, ◌≡◌, List, Bool, false, not, ◌&&◌, length, eqb}
-use Rattle.std.proofs.Common.{subst}
+use Rattle.std.specs.Prelude.{ℕ, ◌-◌, ◌≤◌, ◌≡◌, List, [], false, true, length, Result as Answers}
 use Rattle.meaning.specs.File.{needed, longest}
-use Rattle.meaning.specs.Store.{Store, is_directory, free_blocks, named, names, held}
+use Rattle.meaning.specs.Name.{syllables}
+use Rattle.meaning.specs.Store.{is_directory, free_blocks, named}
 use Rattle.meaning.specs.Tables.{Tables, store_of}
-use Rattle.meaning.specs.Result.{refused, missing, nowhere}
+use Rattle.meaning.specs.Types.{file_numbered}
+use Rattle.meaning.specs.Sound.{sound}
+use Rattle.meaning.specs.Result.{Result, done, missing, nowhere}
 use Rattle.meaning.specs.NameCalls.{parent, record_for, naming}
 use Rattle.meaning.specs.Run.{Call, result_of}
+use Rattle.meaning.specs.Decisions.{Decides}
 use Rattle.meaning.specs.declared.Report.{Report}
-use Rattle.linking.specs.Names.{Both}
+use Rattle.names.specs.FormLaws.{Counted}
+use Rattle.counts.specs.Gone.{gone_with}
+use Rattle.linking.specs.Act.{link_changes}
 use Rattle.linking.specs.declared.Plan.{Plan}
-use Rattle.linking.specs.declared.Linking.{Linking}
-use Rattle.linking.specs.declared.Linking.TheVariants.{Of, No}
-
--- g is a file with one name and no channel
-unfoldable pub lone : Store → ℕ → Bool
-lone s g = not (eqb g 0) && (eqb (names s g) 1 && not (held s g))
 
 -- no cause of a refusal of link holds: what the plan says is so, and there is room
 pub record Accepted (t : Tables) (old new : List ℕ) (p : Plan) : Type 0 where
-  pub both : Both t old new p.from p.to
-  pub there : missing (store_of t) both.old-name.at.name ≡ false
-  pub ordinary : is_directory (store_of t) (named (store_of t) both.old-name.at.name) ≡ false
-  pub here : nowhere (store_of t) both.new-name.at.name ≡ false
-  pub plain : is_directory (store_of t) (named (store_of t) both.new-name.at.name) ≡ false
-  pub place : p.place ≡ record_for (store_of t) both.new-name.at.name
-  pub size : length (naming (store_of t) both.new-name.at.name (named (store_of t) both.old-name.at.name)).bytes ≤ longest
-  pub room : needed (length (naming (store_of t) both.new-name.at.name (named (store_of t) both.old-name.at.name)).bytes)
-      - needed (length ((store_of t).file (parent (store_of t) both.new-name.at.name)).bytes) ≤ free_blocks (store_of t)
-  pub alone : p.lone ≡ lone (store_of t) p.to.file.0
+  pub ok : sound t ≡ true
+  -- the old name
+  pub j : ℕ
+  pub old-name : Counted (syllables old) j
+  pub there : missing (store_of t) old-name.name ≡ false
+  pub ordinary : is_directory (store_of t) (named (store_of t) old-name.name) ≡ false
+  pub from_is : p.from.0 ≡ parent (store_of t) old-name.name
+  pub file_is : p.file.0 ≡ named (store_of t) old-name.name
+  -- the new name
+  pub k : ℕ
+  pub new-name : Counted (syllables new) k
+  pub here : nowhere (store_of t) new-name.name ≡ false
+  pub plain : is_directory (store_of t) (named (store_of t) new-name.name) ≡ false
+  pub to_is : p.to.0 ≡ parent (store_of t) new-name.name
+  pub place : p.place ≡ record_for (store_of t) new-name.name
+  pub gone_is : p.gone ≡ file_numbered (gone_with (store_of t) (named (store_of t) new-name.name))
+  -- the room
+  pub size : length (naming (store_of t) new-name.name (named (store_of t) old-name.name)).bytes ≤ longest
+  pub room : needed (length (naming (store_of t) new-name.name (named (store_of t) old-name.name)).bytes)
+      - needed (length ((store_of t).file (parent (store_of t) new-name.name)).bytes) ≤ free_blocks (store_of t)
 
-abbrev Decided : Tables → List ℕ → List ℕ → Linking → Type 0
-Decided t old new (Of p) = Accepted t old new p
-Decided t old new (No why) = refused why ≡ result_of (Call.Link old new) t
+-- what link gives where it goes by the plan
+abbrev pub link_given : Tables → List ℕ → Plan → Result
+link_given t new p = done [] [] (link_changes (store_of t) new p)
 
-pub record Decides (t : Tables) (old new : List ℕ) (d : Linking) : Type 0 where
-  pub case : Decided t old new d
-
-module _ (t : Tables) (old new : List ℕ) (d : Linking) (decides : Decides t old new d) where
-  pub refuses_link : (why : Report) → d ≡ No why → refused why ≡ result_of (Call.Link old new) t
-  refuses_link why e = subst (Decided t old new) e decides.case
-
-  pub accepts-link : (p : Plan) → d ≡ Of p → Accepted t old new p
-  accepts-link p e = subst (Decided t old new) e decides.case
+abbrev pub DecidesLink : Tables → List ℕ → List ℕ → Answers Plan Report → Type 0
+DecidesLink t old new d = Decides (link_given t new) (Accepted t old new) (result_of (Call.Link old new) t) d

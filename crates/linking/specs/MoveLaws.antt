@@ -30,10 +30,10 @@ module _ (t : Tables) (old new : List ℕ) (p : Plan) (a : Accepted t old new p)
   s = store_of t
 
   abbrev from : List (List ℕ)
-  from = a.both.old-name.at.name
+  from = a.old-name.name
 
   abbrev to : List (List ℕ)
-  to = a.both.new-name.at.name
+  to = a.new-name.name
 
   abbrev f : ℕ
   f = named s from
@@ -64,7 +64,7 @@ module _ (t : Tables) (old new : List ℕ) (p : Plan) (a : Accepted t old new p)
   some = missing_some s from a.there
 
   is_from : syllables old ≡ O.some from
-  is_from = a.both.old-name.at.is
+  is_from = a.old-name.is
 
   other_from : f ≢ 1
   other_from = plain_other s (L.well t old new p a) (L.size_of t old new p a) old from is_from a.ordinary

@@ -1,6 +1,5 @@
 -- A call on two names: the refusals that come before every other, and what is known where they do not come.
-use Rattle.std.specs.Prelude.{ℕ, ◌≡◌, List, not}
-use Rattle.std.proofs.Common.{subst}
+use Rattle.std.specs.Prelude.{ℕ, ◌≡◌, List, not, Result as Answers, Ok, Err}
 use Rattle.meaning.specs.Name.{syllables}
 use Rattle.meaning.specs.Tables.{Tables}
 use Rattle.meaning.specs.Sound.{sound}
@@ -12,8 +11,6 @@ use Rattle.lookup.specs.Filed.{filed}
 use Rattle.naming.specs.Located.{Locates}
 use Rattle.naming.specs.At.{At}
 use Rattle.naming.specs.declared.Located.{Located}
-use Rattle.linking.specs.declared.Names.{Names}
-use Rattle.linking.specs.declared.Names.TheVariants.{Found, Refused}
 
 -- what a call on two names gives, where `rest` follows on the syllables of both
 unfoldable pub on_names : Tables → List ℕ → List ℕ → (List (List ℕ) → List (List ℕ) → Result) → Result
@@ -30,16 +27,6 @@ pub record Both (t : Tables) (old new : List ℕ) (x y : Located) : Type 0 where
   pub old-name : Here t old x
   pub new-name : Here t new y
 
-abbrev OnNames : Tables → List ℕ → List ℕ → Names → Type 0
-OnNames t old new (Found x y) = Both t old new x y
-OnNames t old new (Refused why) = (rest : List (List ℕ) → List (List ℕ) → Result) → refused why ≡ on_names t old new rest
-
-pub record FindsNames (t : Tables) (old new : List ℕ) (names : Names) : Type 0 where
-  pub case : OnNames t old new names
-
-module _ (t : Tables) (old new : List ℕ) (names : Names) (on : FindsNames t old new names) where
-  pub names_refused : (why : Report) → names ≡ Refused why → (rest : List (List ℕ) → List (List ℕ) → Result) → refused why ≡ on_names t old new rest
-  names_refused why e = subst (OnNames t old new) e on.case
-
-  pub names_both : (x y : Located) → names ≡ Found x y → Both t old new x y
-  names_both x y e = subst (OnNames t old new) e on.case
+abbrev pub FindsNames : Tables → List ℕ → List ℕ → Answers (Located × Located) Report → Type 0
+FindsNames t old new (Ok both) = Both t old new both.0 both.1
+FindsNames t old new (Err why) = (rest : List (List ℕ) → List (List ℕ) → Result) → refused why ≡ on_names t old new rest

@@ -1,188 +1,122 @@
 // The calls on two names.
+// Tables that are changed are taken one by one; `channels` says why.
 #![tactic(auto)]
 
-ghost use Rattle.std.specs.Prelude.{◌≡◌, true, not, ◌&&◌, ◌≤◌, eqb};
-ghost use Rattle.meaning.specs.Store.{is_directory};
-ghost use Rattle.meaning.specs.Tables.{tables, store_of, file_count};
-ghost use Rattle.meaning.specs.Sound.{sound};
+ghost use Rattle.std.specs.Prelude.{◌≡◌};
+ghost use Rattle.meaning.specs.Tables.{tables};
+ghost use Rattle.meaning.specs.Types.{tables_of};
 ghost use Rattle.meaning.specs.Run.{Keeps, Call};
 ghost use Rattle.meaning.specs.Answers.{reported};
-ghost use Rattle.soundness.specs.Seen.{files_store};
-ghost use Rattle.linking.specs.Names.{FindsNames};
-ghost use Rattle.linking.specs.Link.{lone, Decides};
+ghost use Rattle.linking.specs.Names.{FindsNames, Here};
+ghost use Rattle.linking.specs.NewName.{OnNewName};
+ghost use Rattle.linking.specs.Link.{DecidesLink};
 ghost use Rattle.linking.specs.Act.{goes, last_goes, MayGo, Linkable, Droppable, LetsGo, Links, Drops};
 ghost use Rattle.linking.specs.Move.{DecidesMove};
 
 use counts::gone_with;
 use files::clear_file;
-use meaning::{FileNo, Report};
-use names::{NameForm, name_form};
-use naming::{Judged, Located, judge_name, locate, record_for};
-use recording::{Fit, give_name, record_fits, take_name};
+use meaning::{FileNo, Kind, Lent, Report};
+use names::name_form;
+use naming::{Located, judge_name, locate, new_record, own_record};
+use recording::{give_name, record_fits, take_name};
 use soundness::is_directory;
 
-// Two names located, or the refusal that comes before any other of a call on two names.
-#[derive(Clone, Copy)]
-pub enum Names {
-    Found(Located, Located),
-    Refused(Report),
+// Two names judged, the old one first, and located; or the refusal that comes before any other of a call on two names.
+fn find_names(store: &Lent, old: &[u8], new: &[u8]) -> Result<(Located, Located), Report>
+    ensures { FindsNames (tables_of store.now) old.now new.now result }
+{
+    let j = judge_name(store, old)?;
+    let k = name_form(new).ok_or(Report::BadName)?;
+    let from = locate(store, old, j);
+    let to = locate(store, new, k);
+    Ok((from, to))
 }
 
-// Two names judged, the old one first, and located.
-fn find_names(
-    blocks: &[u8],
-    block_records: &[u8],
-    file_records: &[u8],
-    channel_records: &[u8],
-    old: &[u8],
+// Of a name that is to be given: its directory, the place of its record there, and the file that goes with it, where it
+// is the only name of a file with no channel; or why no file can get that name.
+fn judge_new(
+    store: &Lent,
     new: &[u8],
-) -> Names
-    ensures { FindsNames (tables blocks.now block_records.now file_records.now channel_records.now) old.now new.now result }
+    at: Located,
+) -> Result<(FileNo, usize, Option<FileNo>), Report>
+    requires { Here (tables_of store.now) new.now at }
+    ensures { OnNewName (tables_of store.now) new.now result }
 {
-    let judged = judge_name(blocks, block_records, file_records, channel_records, old);
-    match judged {
-        Judged::Refused(why) => Names::Refused(why),
-        Judged::Syllables(j) => {
-            let form = name_form(new);
-            match form {
-                NameForm::Bad => Names::Refused(Report::BadName),
-                NameForm::Syllables(k) => {
-                    let from = locate(blocks, block_records, file_records, old, j);
-                    let to = locate(blocks, block_records, file_records, new, k);
-                    Names::Found(from, to)
-                }
+    match at {
+        Located::Nowhere => Err(Report::NoSuchName),
+        Located::New(d) => Ok((d, new_record(store, new, d), None)),
+        Located::Old(d, g) => {
+            if is_directory(store.file_records, g) {
+                return Err(Report::IsDirectory);
             }
+            Ok((d, own_record(store, new, d), gone_with(store, g)))
         }
     }
 }
 
-// Whether a name stands for nothing and its directory is not there.
-fn is_nowhere(file_records: &[u8], at: Located) -> bool
-    ensures { result ≡ eqb at.file.0 0 && not (is_directory (files_store file_records.now) at.parent.0) }
-{
-    if at.file.0 != 0 {
-        return false;
-    }
-    !is_directory(file_records, at.parent)
-}
-
-// Whether g is a file with one name and no channel.
-fn is_lone(
-    blocks: &[u8],
-    block_records: &[u8],
-    file_records: &[u8],
-    channel_records: &[u8],
-    g: FileNo,
-) -> bool
-    requires sound_store { sound (tables blocks.now block_records.now file_records.now channel_records.now) ≡ true }
-    requires g_in_bounds { g.0 ≤ file_count file_records.now }
-    ensures { result ≡ lone (store_of (tables blocks.now block_records.now file_records.now channel_records.now)) g.0 }
-{
-    if g.0 == 0 {
-        return false;
-    }
-    gone_with(blocks, block_records, file_records, channel_records, g).0 != 0
-}
-
-// How link goes: both names, where the new one's record is or goes, and whether the file that the new name stood for,
-// if any, has no other name and no channel.
+// How link goes: the old name's directory and file; the new name's directory and the place of its record there; and the
+// file that the new name stood for, where it has no other name and no channel.
 #[derive(Clone, Copy)]
-pub struct Plan {
-    pub from: Located,
-    pub to: Located,
-    pub place: usize,
-    pub lone: bool,
-}
-
-#[derive(Clone, Copy)]
-pub enum Linking {
-    Of(Plan),
-    No(Report),
+struct Plan {
+    from: FileNo,
+    file: FileNo,
+    to: FileNo,
+    place: usize,
+    gone: Option<FileNo>,
 }
 
 // The refusals of link in their order, or how it goes.
-fn decide_link(
-    blocks: &[u8],
-    block_records: &[u8],
-    file_records: &[u8],
-    channel_records: &[u8],
-    old: &[u8],
-    new: &[u8],
-) -> Linking
-    ensures { Decides (tables blocks.now block_records.now file_records.now channel_records.now) old.now new.now result }
+fn decide_link(store: &Lent, old: &[u8], new: &[u8]) -> Result<Plan, Report>
+    ensures { DecidesLink (tables_of store.now) old.now new.now result }
 {
-    let names = find_names(
-        blocks,
-        block_records,
-        file_records,
-        channel_records,
-        old,
-        new,
-    );
-    match names {
-        Names::Refused(why) => Linking::No(why),
-        Names::Found(from, to) => {
-            let f = from.file;
-            if f.0 == 0 {
-                return Linking::No(Report::NoSuchName);
-            }
-            if is_directory(file_records, f) {
-                return Linking::No(Report::IsDirectory);
-            }
-            if is_nowhere(file_records, to) {
-                return Linking::No(Report::NoSuchName);
-            }
-            let g = to.file;
-            if is_directory(file_records, g) {
-                return Linking::No(Report::IsDirectory);
-            }
-            let place = record_for(blocks, block_records, file_records, new, to);
-            let fit = record_fits(block_records, file_records, to.parent, place);
-            match fit {
-                Fit::No(why) => Linking::No(why),
-                Fit::Fits => {
-                    let lone = is_lone(blocks, block_records, file_records, channel_records, g);
-                    Linking::Of(Plan {
-                        from,
-                        to,
-                        place,
-                        lone,
-                    })
-                }
-            }
-        }
+    let (from, at) = find_names(store, old, new)?;
+    let Located::Old(from, file) = from else {
+        return Err(Report::NoSuchName);
+    };
+    if is_directory(store.file_records, file) {
+        return Err(Report::IsDirectory);
     }
+    let (to, place, gone) = judge_new(store, new, at)?;
+    record_fits(store, to, place)?;
+    Ok(Plan {
+        from,
+        file,
+        to,
+        place,
+        gone,
+    })
 }
 
-// Whether the file that the new name stood for goes: it is another file, with no other name and no channel.
-fn replaced_goes(plan: Plan) -> bool
+// What link lets go: the file that the new name stood for goes, where it is another file than the old name's.
+fn replaced_goes(plan: Plan) -> Option<FileNo>
     ensures { result ≡ goes plan }
 {
-    if plan.to.file.0 == plan.from.file.0 {
-        return false;
+    let g = plan.gone?;
+    if g == plan.file {
+        return None;
     }
-    plan.lone
+    Some(g)
 }
 
-// Whether the old name's file goes where a move takes its name: the new name is its own too, and it has no other and no channel.
-fn last_goes(plan: Plan) -> bool
+// What a move lets go with the old name: its file, where the new name was its own too, and it had no other and no channel.
+fn last_goes(plan: Plan) -> Option<FileNo>
     ensures { result ≡ last_goes plan }
 {
-    if plan.to.file.0 != plan.from.file.0 {
-        return false;
+    let g = plan.gone?;
+    if g != plan.file {
+        return None;
     }
-    plan.lone
+    Some(plan.file)
 }
 
-// File g let go, where it goes.
-fn let_go(block_records: &mut [u8], file_records: &mut [u8], goes: bool, g: FileNo)
-    requires { MayGo block_records.old file_records.old goes g.0 }
-    ensures { LetsGo block_records file_records goes g.0 }
+// A file let go, or none.
+fn let_go(block_records: &mut [u8], file_records: &mut [u8], gone: Option<FileNo>)
+    requires { MayGo block_records.old file_records.old gone }
+    ensures { LetsGo block_records file_records gone }
 {
-    if !goes {
-        return;
+    if let Some(g) = gone {
+        clear_file(block_records, file_records, g, Kind::Free as u8, 0);
     }
-    clear_file(block_records, file_records, g, 0, 0);
 }
 
 // The new name's record given to the old name's file, and the file that it stood for let go.
@@ -200,17 +134,12 @@ fn make_link(
         blocks,
         block_records,
         file_records,
-        plan.to.parent,
+        plan.to,
         plan.place,
-        plan.from.file,
+        plan.file,
         new,
     );
-    let_go(
-        block_records,
-        file_records,
-        replaced_goes(plan),
-        plan.to.file,
-    );
+    let_go(block_records, file_records, replaced_goes(plan));
 }
 
 // The old name's record, number i of its directory, made blank, and its file let go where that was its last name.
@@ -224,8 +153,8 @@ fn drop_name(
     requires { Droppable blocks.old block_records.old file_records.old plan i }
     ensures { Drops blocks block_records file_records plan i }
 {
-    take_name(blocks, block_records, file_records, plan.from.parent, i);
-    let_go(block_records, file_records, last_goes(plan), plan.from.file);
+    take_name(blocks, block_records, file_records, plan.from, i);
+    let_go(block_records, file_records, last_goes(plan));
 }
 
 // A new name for the file that an old name stands for; what the new name stood for is replaced.
@@ -236,59 +165,27 @@ pub fn link(
     channel_records: &[u8],
     old: &[u8],
     new: &[u8],
-) -> Report
+) -> Result<(), Report>
     ensures { Keeps (Call.Link old.now new.now) (tables blocks.old block_records.old file_records.old channel_records.now) (tables blocks.new block_records.new file_records.new channel_records.now) (reported result) }
 {
-    let decided = decide_link(
+    let store = Lent {
         blocks,
         block_records,
         file_records,
         channel_records,
-        old,
-        new,
-    );
-    match decided {
-        Linking::No(why) => why,
-        Linking::Of(plan) => {
-            make_link(blocks, block_records, file_records, new, plan);
-            Report::Ok
-        }
-    }
+    };
+    let plan = decide_link(&store, old, new)?;
+    make_link(blocks, block_records, file_records, new, plan);
+    Ok(())
 }
 
-// How a move goes: as link does, and the old name's record in its directory.
-#[derive(Clone, Copy)]
-pub enum Moving {
-    Of(Plan, usize),
-    No(Report),
-}
-
-// The refusals of move, which are those of link, or how it goes.
-fn decide_move(
-    blocks: &[u8],
-    block_records: &[u8],
-    file_records: &[u8],
-    channel_records: &[u8],
-    old: &[u8],
-    new: &[u8],
-) -> Moving
-    ensures { DecidesMove (tables blocks.now block_records.now file_records.now channel_records.now) old.now new.now result }
+// The refusals of move, which are those of link; or how link goes, and the old name's record in its directory.
+fn decide_move(store: &Lent, old: &[u8], new: &[u8]) -> Result<(Plan, usize), Report>
+    ensures { DecidesMove (tables_of store.now) old.now new.now result }
 {
-    let decided = decide_link(
-        blocks,
-        block_records,
-        file_records,
-        channel_records,
-        old,
-        new,
-    );
-    match decided {
-        Linking::No(why) => Moving::No(why),
-        Linking::Of(plan) => {
-            let i = record_for(blocks, block_records, file_records, old, plan.from);
-            Moving::Of(plan, i)
-        }
-    }
+    let plan = decide_link(store, old, new)?;
+    let i = own_record(store, old, plan.from);
+    Ok((plan, i))
 }
 
 // A new name for the file that an old name stands for, instead of the old one.
@@ -299,23 +196,17 @@ pub fn move_name(
     channel_records: &[u8],
     old: &[u8],
     new: &[u8],
-) -> Report
+) -> Result<(), Report>
     ensures { Keeps (Call.Move old.now new.now) (tables blocks.old block_records.old file_records.old channel_records.now) (tables blocks.new block_records.new file_records.new channel_records.now) (reported result) }
 {
-    let decided = decide_move(
+    let store = Lent {
         blocks,
         block_records,
         file_records,
         channel_records,
-        old,
-        new,
-    );
-    match decided {
-        Moving::No(why) => why,
-        Moving::Of(plan, i) => {
-            make_link(blocks, block_records, file_records, new, plan);
-            drop_name(blocks, block_records, file_records, plan, i);
-            Report::Ok
-        }
-    }
+    };
+    let (plan, i) = decide_move(&store, old, new)?;
+    make_link(blocks, block_records, file_records, new, plan);
+    drop_name(blocks, block_records, file_records, plan, i);
+    Ok(())
 }

@@ -8,6 +8,7 @@ use Rattle.records.specs.Tests.{and_right}
 use Rattle.meaning.specs.Name.{record_count}
 use Rattle.meaning.specs.Store.{Store, File, no_channel, in_use, is_directory, within, names}
 use Rattle.meaning.specs.Tables.{Tables, tables, store_of, file_of, file_count, byte_of}
+use Rattle.meaning.specs.declared.Lent.{Lent}
 use Rattle.meaning.specs.Sound.{sound, layout_sound, well_formed}
 use Rattle.layout.specs.Layout.{sound_layout}
 use Rattle.soundness.specs.Well.{Well}
@@ -27,6 +28,13 @@ pub record Shelves (blocks records files : List ℕ) : Type 0 where
   pub lies : (d : ℕ) → is_directory (filed blocks records files) d ≡ true → Lies blocks records d (record_count ((filed blocks records files).file d).bytes)
   pub whole : (d : ℕ) → is_directory (filed blocks records files) d ≡ true
       → length ((filed blocks records files).file d).bytes ≡ 16 * record_count ((filed blocks records files).file d).bytes
+
+-- the same of lent tables
+abbrev pub filed_in : Lent → Store
+filed_in store = filed store.blocks.now store.block_records.now store.file_records.now
+
+abbrev pub ShelvesIn : Lent → Type 0
+ShelvesIn store = Shelves store.blocks.now store.block_records.now store.file_records.now
 
 pub sound_well : (t : Tables) → sound t ≡ true → Well (store_of t)
 unfolding sound

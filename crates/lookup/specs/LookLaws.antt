@@ -1,12 +1,12 @@
 -- Looking a syllable up in a directory, step by step.
-use Rattle.std.specs.Prelude.{ℕ, ◌+◌, ◌-◌, ◌*◌, ◌/◌, ◌%◌, ◌≤◌, ◌<◌, ◌≡◌, ◌≢◌, List, [], true, false, length}
+use Rattle.std.specs.Prelude.{ℕ, ◌+◌, ◌-◌, ◌*◌, ◌/◌, ◌%◌, ◌≤◌, ◌<◌, ◌≡◌, refl, ◌≢◌, List, [], ◌∷◌, true, false, length}
 use Rattle.std.proofs.Math.Path.{ap, sym}
 use Rattle.std.proofs.Common.{◌∙◌, arith}
 use borrow.Author.Tests.{lt-ltb, le-ltb}
 use Rattle.records.specs.Rows.{lowest}
 use Rattle.records.specs.RowLaws.{lowest_cong, lowest-within}
 use Rattle.meaning.specs.Name.{Entry, same, entry_in, entry_at, is_blank, record_count, record_named, record_for_new, in_directory}
-use Rattle.meaning.specs.Store.{Store, is_directory, within}
+use Rattle.meaning.specs.Store.{Store, in_use, is_directory, within}
 use Rattle.meaning.specs.Tables.{tables, store_of, block_count, file_count, file_length, length_at, block_of}
 use Rattle.layout.specs.Layout.{length-file}
 use Rattle.soundness.specs.Use.{directory_used}
@@ -117,6 +117,16 @@ pub walk_none : (s : Store) (d : ℕ) (name : List ℕ) (at n : ℕ) → n ≡ 0
 unfolding walk syllables_from
 walk_none s d name at n e = rw e
 
+-- from nowhere it leads nowhere
+pub within_none : (s : Store) (syllable : List ℕ) → within s 0 syllable ≡ 0
+unfolding within is_directory in_use
+within_none s syllable = refl
+
+pub walk_nowhere : (s : Store) (rest : List (List ℕ)) → walk s 0 rest ≡ 0
+unfolding walk
+walk_nowhere s [] = refl
+walk_nowhere s (syllable ∷ rest) = rw (within_none s syllable) (walk_nowhere s rest)
+
 module _ (s : Store) (d : ℕ) (name : List ℕ) (at n end : ℕ) (ended : end ≡ syllable_end name at) (some : n ≢ 0) (f : ℕ) (next : f ≡ within s d (part name at end)) where
   step : walk s d (syllables_from name at n) ≡ walk s f (syllables_from name (end + 1) (n - 1))
   unfolding walk
@@ -124,6 +134,9 @@ module _ (s : Store) (d : ℕ) (name : List ℕ) (at n end : ℕ) (ended : end �
 
   pub walk-last : n ≡ 1 → f ≡ walk s d (syllables_from name at n)
   walk-last e = walk_none s f name (end + 1) (n - 1) (omega arith) ∙ sym step
+
+  pub walk_off : f ≡ 0 → walk s d (syllables_from name at n) ≡ 0
+  walk_off e = step ∙ ap (λ g. walk s g (syllables_from name (end + 1) (n - 1))) e ∙ walk_nowhere s (syllables_from name (end + 1) (n - 1))
 
   pub walk_on : (after : ℕ) → after ≡ end + 1 → (g : ℕ) → g ≡ walk s f (syllables_from name after (n - 1)) → g ≡ walk s d (syllables_from name at n)
   walk_on after goes g e = e ∙ ap (λ (k : ℕ). walk s f (syllables_from name k (n - 1))) goes ∙ sym step

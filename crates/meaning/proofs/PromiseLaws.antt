@@ -1,14 +1,14 @@
 -- How a promise is met: by a refusal that leaves all as it was, or by the changes of an accepted call.
-use Rattle.std.specs.Prelude.{ℕ, ◌≡◌, List}
+use Rattle.std.specs.Prelude.{ℕ, ◌≡◌, List, Err}
 use Rattle.std.proofs.Math.Path.{refl}
-use Rattle.std.proofs.Common.{ap, ◌∙◌}
+use Rattle.std.proofs.Common.{ap, sym, ◌∙◌}
 use Rattle.meaning.specs.File.{over}
 use Rattle.meaning.specs.Store.{Change}
 use Rattle.meaning.specs.Result.{Result, refused, done}
 use Rattle.meaning.specs.Tables.{Tables, put_all}
 use Rattle.meaning.specs.Run.{Call, width, accepted, refusal, Outcome, Promise, result_of, answer_of, bytes_of, changes_of}
 use Rattle.meaning.specs.Answers.{reported}
-use Rattle.meaning.proofs.Refusals.{refusal-alone}
+use Rattle.meaning.proofs.Refusals.{refusal-alone, refused_row}
 use Rattle.meaning.specs.declared.Report.{Report}
 
 module _ (call : Call) (t : Tables) (buffer : List ℕ) where
@@ -28,8 +28,8 @@ module _ (call : Call) (t : Tables) (buffer : List ℕ) where
   kept_refusal why e = kept (refused why) e (record { answer = refusal (width call) why; buffer = buffer; tables = t }) refl refl refl
 
   -- the same of a call that answers its report alone
-  pub kept_report : width call ≡ 0 → (why : Report) → refused why ≡ result_of call t → Promise call t buffer (record { answer = reported why; buffer = buffer; tables = t })
-  kept_report alone why e = rw (alone, refusal-alone why) at (kept_refusal why e)
+  pub kept_report : width call ≡ 0 → (why : Report) → refused why ≡ result_of call t → Promise call t buffer (record { answer = reported (Err why); buffer = buffer; tables = t })
+  kept_report alone why e = rw (alone, refusal-alone why (refused_row call t why (sym e)).0) at (kept_refusal why e)
 
   -- an accepted call tells its numbers, fills the buffer's head and makes its changes
   pub kept_done : (ns bytes : List ℕ) (changes : List Change) → done ns bytes changes ≡ result_of call t → (t' : Tables) → t' ≡ put_all t changes

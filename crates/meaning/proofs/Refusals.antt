@@ -1,5 +1,5 @@
 -- A refused call answers its report's number and zeros, and the number is never Ok's (01: "a refusal has every other number zero").
-use Rattle.std.specs.Prelude.{ℕ, ◌≡◌, refl, List, [], ◌∷◌, ◌++◌, Bool, true, false, eqb, replicate}
+use Rattle.std.specs.Prelude.{ℕ, ◌≡◌, refl, List, ◌∷◌, ◌++◌, Bool, true, false, eqb, replicate, Err}
 use Rattle.std.proofs.Common.{ap, ◌∙◌, arith}
 use Rattle.std.proofs.Math.Option.{Option, none, some}
 use Rattle.records.specs.Rows.{pick}
@@ -16,21 +16,17 @@ use Rattle.meaning.specs.declared.Report.TheVariants.{NotAStore, BadName, NoFree
 
 -- ---- rows of refusals
 
--- a report alone
-pub refusal-alone : (why : Report) → refusal 0 why ≡ reported why
-unfolding refusal
-refusal-alone why = go (eqb (number_of why) 0)
-  where
-    go : (t : Bool) → number_of why ∷ pick t [] [] ≡ reported why
-    go true = refl
-    go false = refl
-
 -- its number is not Ok's
-IsNo : Report → Type 0
+abbrev pub IsNo : Report → Type 0
 IsNo why = eqb (number_of why) 0 ≡ false
 
+-- a report alone
+pub refusal-alone : (why : Report) → IsNo why → refusal 0 why ≡ reported (Err why)
+unfolding refusal
+refusal-alone why e = rw e
+
 refusal-row : (n : ℕ) (why : Report) → IsNo why → refusal n why ≡ number_of why ∷ replicate n 0
-unfolding refusal IsNo
+unfolding refusal
 refusal-row n why e = rw e
 
 -- ---- no call is refused with Ok
@@ -57,16 +53,16 @@ either true r r' a b = a
 either false r r' a b = b
 
 on_name_lem : (read : Option (List (List ℕ))) (r : List (List ℕ) → Result) → ((name : List (List ℕ)) → Refuses (r name)) → Refuses (with_syllables read r)
-unfolding with_syllables number_of IsNo
+unfolding with_syllables number_of
 on_name_lem none r rest = by_cause BadName refl
 on_name_lem (some name) r rest = rest name
 
 on_channel_lem : (s : Store) (c : ℕ) (r : Result) → Refuses r → Refuses (on_channel s c r)
-unfolding on_channel number_of IsNo
+unfolding on_channel number_of
 on_channel_lem s c r rest = or_else _ _ r refl rest
 
 if_fits_lem : (s : Store) (old new : ℕ) (r : Result) → Refuses r → Refuses (if_fits s old new r)
-unfolding if_fits number_of IsNo
+unfolding if_fits number_of
 if_fits_lem s old new r rest = or_else _ _ _ refl (or_else _ _ r refl rest)
 
 with_changes_lem : (changes : List Change) (r : Result) → Refuses r → Refuses (with_changes changes r)
@@ -80,7 +76,7 @@ and_then_lem s (refused why) next rest more = rest
 and_then_lem s (done ns bytes changes) next rest more = with_changes_lem changes (next (after_all s changes)) (more (after_all s changes))
 
 link_refuses : (old new : List ℕ) (s : Store) → Refuses (link old new s)
-unfolding link if_naming_fits number_of IsNo
+unfolding link if_naming_fits number_of
 link_refuses old new s =
     on_name_lem (syllables old) _ λ from.
     on_name_lem (syllables new) _ λ to.
@@ -92,7 +88,7 @@ link_refuses old new s =
     (never _ _ _)))))
 
 unlink_refuses : (bytes : List ℕ) (s : Store) → Refuses (unlink bytes s)
-unfolding unlink number_of IsNo
+unfolding unlink number_of
 unlink_refuses bytes s =
     on_name_lem (syllables bytes) _ λ name.
     or_else _ _ _ refl
@@ -100,7 +96,7 @@ unlink_refuses bytes s =
     (never _ _ _))
 
 call_refuses : (call : Call) (s : Store) → Refuses (meaning call s)
-unfolding meaning close read write seek fstat room create open' move mkdir rmdir ls if_naming_fits number_of IsNo
+unfolding meaning close read write seek fstat room create open' move mkdir rmdir ls if_naming_fits number_of
 call_refuses Prepare s = never _ _ _
 call_refuses Room s = never _ _ _
 call_refuses (Create name) s =
@@ -143,7 +139,7 @@ call_refuses (Seek c mode n) s = on_channel_lem s c _ (or_else _ _ _ refl (never
 -- the theorem: where a call is refused, its answer is the report's number, which is not 0, and zeros
 pub refused_row : (call : Call) (t : Tables) (why : Report) → result_of call t ≡ refused why
     → (eqb (number_of why) 0 ≡ false) × (answer_of (width call) (result_of call t) ≡ number_of why ∷ replicate (width call) 0)
-unfolding answer_of result_of Refuses IsNo number_of
+unfolding answer_of result_of Refuses number_of
 refused_row call t why e =
     let h = or_else _ NotAStore _ refl (call_refuses call (store_of t)) why e in
     (h, ap (answer_of (width call)) e ∙ refusal-row (width call) why h)

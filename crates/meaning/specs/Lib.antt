@@ -8,6 +8,8 @@ pub mod Tables
 pub mod Sound
 pub mod Run
 pub mod Answers
+pub mod Types
+pub mod Decisions
 pub mod Text
 pub mod Running
 pub mod Figures

@@ -1,11 +1,15 @@
 // The types that calls speak in. Every definition of the store is in specs/.
 #![tactic(auto)]
 
-ghost use Rattle.std.specs.Prelude.{◌≡◌};
-ghost use Rattle.meaning.specs.Run.{number_of};
+pub mod values;
 
-// What a call reports, in document 01's order: the first is 0, the last 15.
-#[derive(Clone, Copy)]
+ghost use Rattle.std.specs.Prelude.{◌≡◌, eqb};
+ghost use Rattle.meaning.specs.Run.{number_of};
+ghost use Rattle.meaning.specs.Types.{kind_number, file_numbered};
+
+// What a call reports, in document 01's order: the first is 0, the last 15. A call's Err never holds Ok (refused_row), which
+// stays among them since 01 numbers it with the others (number_of).
+#[derive(Clone, Copy, Debug, PartialEq, Eq)]
 pub enum Report {
     Ok,
     NotAStore,
@@ -26,26 +30,11 @@ pub enum Report {
 }
 
 // Document 01's number of a report.
-pub fn report_number(report: Report) -> u32
-    ensures { result ≡ number_of report }
-{
-    match report {
-        Report::Ok => 0,
-        Report::NotAStore => 1,
-        Report::BadName => 2,
-        Report::NoSuchCid => 3,
-        Report::NoSuchName => 4,
-        Report::NoFreeCids => 5,
-        Report::IsDirectory => 6,
-        Report::NotDirectory => 7,
-        Report::NoFreeFids => 8,
-        Report::NoRoom => 9,
-        Report::TooBig => 10,
-        Report::BadSeek => 11,
-        Report::NameInUse => 12,
-        Report::NotEmpty => 13,
-        Report::OutShort => 14,
-        Report::InUse => 15,
+impl From<Report> for u32 {
+    ghost from_gives = { λ report n. n ≡ number_of report };
+
+    fn from(report: Report) -> u32 {
+        report as u32
     }
 }
 
@@ -70,48 +59,76 @@ pub const MOST_CHANNELS: usize = 16;
 pub const BLOCK_SIZE: usize = 512;
 
 // Files are counted from 1; 0 means none.
-#[derive(Clone, Copy)]
+#[derive(Clone, Copy, Debug, PartialEq, Eq)]
 pub struct FileNo(pub u16);
 
+impl FileNo {
+    // Where a record has no file.
+    pub const NONE: FileNo = FileNo(0);
+
+    // The root directory.
+    pub const ROOT: FileNo = FileNo(1);
+
+    pub fn is_none(self) -> bool
+        ensures { result ≡ eqb self.0 0 }
+    {
+        self.0 == 0
+    }
+
+    // A number that was read in a record: a file's, or none.
+    pub fn or_none(self) -> Option<FileNo>
+        ensures { result ≡ file_numbered self.0 }
+    {
+        if self.0 == 0 { None } else { Some(self) }
+    }
+}
+
 // Channels are counted from 0.
-#[derive(Clone, Copy)]
+#[derive(Clone, Copy, Debug, PartialEq, Eq)]
 pub struct ChannelNo(pub u32);
 
 // Blocks are counted from 0.
-#[derive(Clone, Copy)]
+#[derive(Clone, Copy, Debug, PartialEq, Eq)]
 pub struct BlockNo(pub u16);
 
-// What create and open answer: the channel.
-#[derive(Clone, Copy)]
-pub enum Opened {
-    At(ChannelNo),
-    Refused(Report),
+// What a file record is used for.
+#[derive(Clone, Copy, Debug, PartialEq, Eq)]
+pub enum Kind {
+    Free,
+    File,
+    Directory,
 }
 
-// What read, write and ls answer: a count of bytes or of names.
-#[derive(Clone, Copy)]
-pub enum Counted {
-    Of(u32),
-    Refused(Report),
+// Document 01's number of a kind.
+impl From<Kind> for u8 {
+    ghost from_gives = { λ kind n. n ≡ kind_number kind };
+
+    fn from(kind: Kind) -> u8 {
+        kind as u8
+    }
 }
 
-// What seek answers: the new position.
-#[derive(Clone, Copy)]
-pub enum Sought {
-    At(u32),
-    Refused(Report),
+// What fstat answers.
+#[derive(Clone, Copy, Debug, PartialEq, Eq)]
+pub struct Stat {
+    pub length: u32,
+    pub file: FileNo,
+    pub kind: Kind,
 }
 
-// What fstat answers: length, file number, kind.
-#[derive(Clone, Copy)]
-pub enum Stat {
-    Of(u32, FileNo, u8),
-    Refused(Report),
+// What room answers: how many blocks, file numbers and channels are free.
+#[derive(Clone, Copy, Debug, PartialEq, Eq)]
+pub struct Space {
+    pub blocks: u32,
+    pub files: u32,
+    pub channels: u32,
 }
 
-// What room answers: free blocks, free file numbers, free channels.
+// The four tables as the host lends them, to be read.
 #[derive(Clone, Copy)]
-pub enum Space {
-    Of(u32, u32, u32),
-    Refused(Report),
+pub struct Lent<'a> {
+    pub blocks: &'a [u8],
+    pub block_records: &'a [u8],
+    pub file_records: &'a [u8],
+    pub channel_records: &'a [u8],
 }

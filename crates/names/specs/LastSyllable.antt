@@ -1,12 +1,12 @@
 -- The last syllable of a name, and the syllables before it.
-use Rattle.std.specs.Prelude.{ℕ, ◌+◌, ◌-◌, ◌≤◌, ◌<◌, ◌≡◌, List, ◌∷◌, true}
+use Rattle.std.specs.Prelude.{ℕ, ◌+◌, ◌-◌, ◌≤◌, ◌<◌, ◌≡◌, ◌≢◌, List, ◌∷◌, true, false, get_or}
 use Rattle.std.proofs.Math.Path.{ap}
 use Rattle.std.proofs.Common.{sym, ◌∙◌, arith}
 use Rattle.std.proofs.Math.Logic.{⊎_elim}
 use Rattle.std.proofs.Math.Option.{some}
 use Rattle.std.proofs.Math.ListN.{length, take, drop, length-drop}
 use Rattle.std.proofs.Math.Seq.{take_all}
-use borrow.Author.Tests.{eq-eqb}
+use borrow.Author.Tests.{eq-eqb, ne_eqb}
 use Rattle.records.specs.Rows.{lowest}
 use Rattle.records.specs.Numbers.{one}
 use Rattle.records.specs.Tests.{lt_or_ge}
@@ -14,20 +14,37 @@ use Rattle.records.specs.RowLaws.{lowest_is}
 use Rattle.meaning.specs.Name.{slash, split, syllables}
 use Rattle.meaning.specs.Store.{front, last}
 use Rattle.paths.specs.Taking.{is_slash, syllable_end}
+use Rattle.paths.specs.TakingLaws.{ends}
 use Rattle.names.specs.Syllables.{part, syllables_from, place_of, last_start}
-use Rattle.names.specs.SyllableLaws.{ends, end-within, split_from, split_some, rest-slash}
+use Rattle.names.specs.SyllableLaws.{end-within, split_from, split_some, rest-slash}
 use Rattle.names.specs.ReadLaws.{Placed, at_place, read, syllable_is}
 
 -- a place behind a slash, or the start, from which no slash follows
-pub start_is : (bytes : List ℕ) (at : ℕ) → at ≤ length bytes → (0 < at → is_slash bytes (at - 1) ≡ true) → syllable_end bytes at ≡ length bytes → last_start bytes ≡ at
-unfolding last_start
-start_is bytes at within behind no_more =
-    let size = length bytes in
-    let is_last : lowest size (λ i. is_slash bytes (size - 1 - i)) ≡ size - at =
-    lowest_is size (λ i. is_slash bytes (size - 1 - i)) (size - at) (omega arith)
-    (λ i (h : i < size - at). (ends bytes at).misses (size - 1 - i) (omega arith) (rw no_more (omega arith)))
-    (λ h. let z : size - 1 - (size - at) ≡ at - 1 = omega arith in rw z (behind (omega arith))) in
-    omega arith
+module _ (bytes : List ℕ) (at : ℕ) (within : at ≤ length bytes) where
+  start_at : (0 < at → is_slash bytes (at - 1) ≡ true) → ((j : ℕ) → at ≤ j → j < length bytes → is_slash bytes j ≡ false) → last_start bytes ≡ at
+  unfolding last_start
+  start_at behind none =
+      let size = length bytes in
+      let is_last : lowest size (λ i. is_slash bytes (size - 1 - i)) ≡ size - at =
+      lowest_is size (λ i. is_slash bytes (size - 1 - i)) (size - at) (omega arith)
+      (λ i (h : i < size - at). none (size - 1 - i) (omega arith) (omega arith))
+      (λ h. let z : size - 1 - (size - at) ≡ at - 1 = omega arith in rw z (behind (omega arith))) in
+      omega arith
+
+  pub start_is : (0 < at → is_slash bytes (at - 1) ≡ true) → syllable_end bytes at ≡ length bytes → last_start bytes ≡ at
+  start_is behind no_more = start_at behind (λ j l h. (ends bytes at).misses j l (rw no_more h))
+
+-- where the last slash is at k, and where there is none: the bytes as the code reads them
+module _ (bytes : List ℕ) where
+  pub last-behind : (k : ℕ) → k < length bytes → get_or bytes k 0 ≡ slash → ((j : ℕ) → k < j → j < length bytes → get_or bytes j 0 ≢ slash) → last_start bytes ≡ k + 1
+  unfolding one
+  last-behind k inside hit none =
+      start_at bytes (k + 1) (omega arith) (λ h. let z : k + 1 - 1 ≡ k = omega arith in rw z (eq-eqb (get_or bytes k 0) slash hit))
+      (λ j l h. ne_eqb (get_or bytes j 0) slash (none j (omega arith) h))
+
+  pub last_whole : ((j : ℕ) → j < length bytes → get_or bytes j 0 ≢ slash) → last_start bytes ≡ 0
+  unfolding one
+  last_whole none = start_at bytes 0 (omega arith) (λ h. absurd (omega arith)) (λ j l h. ne_eqb (get_or bytes j 0) slash (none j h))
 
 module _ (bytes : List ℕ) (name : List (List ℕ)) (is : syllables bytes ≡ some name) (some_left : 0 < length name) where
   final : ℕ

@@ -1,5 +1,5 @@
 -- A name has at most 120 bytes: eight syllables of 14 bytes, each after a slash.
-use Rattle.std.specs.Prelude.{ℕ, suc, ◌+◌, ◌*◌, ◌≤◌, ◌<◌, ◌≡◌, refl, List, [], ◌∷◌, Bool, true, false, ◌&&◌, get_or, leb, eqb}
+use Rattle.std.specs.Prelude.{ℕ, suc, ◌+◌, ◌*◌, ◌≤◌, ◌<◌, ◌≡◌, refl, List, [], ◌∷◌, Bool, true, false, ◌&&◌, None, get_or, leb, eqb}
 use Rattle.std.proofs.Math.Option.{none, some}
 use Rattle.std.proofs.Common.{arith}
 use Rattle.std.proofs.Math.ListN.{length}
@@ -10,7 +10,6 @@ use Rattle.records.specs.Tests.{and_left, and_right}
 use Rattle.meaning.specs.Name.{slash, most_syllables, is_syllable, before, split, are_syllables, syllables}
 use Rattle.names.specs.Syllables.{form_of}
 use Rattle.names.specs.SyllableTests.{syllable_short}
-use Rattle.names.specs.declared.NameForm.TheVariants.{Bad}
 
 -- how many bytes pieces take, each with the slash before it
 spread : List (List ℕ) → ℕ
@@ -59,6 +58,6 @@ long_none (b ∷ c ∷ bytes) h = go (eqb b slash && are_syllables (split (c ∷
     go true e = absurd (omega (arith, pieces_most (split (c ∷ bytes)) (and_right (eqb b slash) (are_syllables (split (c ∷ bytes))) e), split_spread (c ∷ bytes)))
     go false e = refl
 
-pub form_long : (bytes : List ℕ) → 120 < length bytes → form_of (syllables bytes) ≡ Bad
+pub form_long : (bytes : List ℕ) → 120 < length bytes → form_of (syllables bytes) ≡ None
 unfolding form_of
 form_long bytes h = rw (long_none bytes h)

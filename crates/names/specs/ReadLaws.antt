@@ -10,8 +10,9 @@ use Rattle.records.specs.RowLaws.{every_all}
 use Rattle.records.specs.Tests.{and_left, and_right}
 use Rattle.meaning.specs.Name.{slash, most_syllables, is_syllable, split, are_syllables, syllables}
 use Rattle.paths.specs.Taking.{is_slash, syllable_end}
+use Rattle.paths.specs.TakingLaws.{ends}
 use Rattle.names.specs.Syllables.{part, syllables_from, Reaches, place_of}
-use Rattle.names.specs.SyllableLaws.{ends, split_from, split_some, ends_at-slash, split-next, row_is, reach_is}
+use Rattle.names.specs.SyllableLaws.{split_from, split_some, ends_at-slash, split-next, row_is, reach_is}
 
 -- ---- what the definition says of a well-written name
 

@@ -1,18 +1,25 @@
 -- The record that starts at a place of a table, and whether its name is a given row of bytes.
 use Rattle.std.specs.Prelude.{ℕ, ◌+◌, ◌-◌, ◌*◌, ◌≤◌, ◌<◌, ◌≡◌, List, ◌++◌, Bool, true, false, ◌&&◌, take, drop, get_or, replicate}
 use Rattle.std.proofs.Math.Path.{refl, ap, sym}
-use Rattle.std.proofs.Common.{◌∙◌, append_assoc, add-one, arith, length-append, length-take, length-drop, get_or-take, get_or-drop}
+use Rattle.std.specs.List.{list_any, starts_with}
+use Rattle.std.proofs.Common.{◌∙◌, true≢false, take-append-drop, append_assoc, add-one, arith, length-append, length-take, length-drop, get_or-take, get_or-drop, drop-drop}
 use Rattle.std.proofs.Math.Bool.{not}
 use Rattle.std.proofs.Math.Dec.{eqb}
-use Rattle.std.proofs.Math.ListN.{length}
-use Rattle.std.proofs.lemmas.List.{length-replicate}
-use Rattle.std.proofs.lemmas.List.Edits.{sets}
+use Rattle.std.proofs.Math.ListN.{length, get_or-append}
+use Rattle.std.proofs.lemmas.List.{length-replicate, drop-take}
+use Rattle.std.proofs.lemmas.List.Edits.{sets, sets-eq}
+use borrow.Rule.Slice.PartMut.{put_mid}
+use Rattle.std.proofs.lemmas.Slice.{take-put_mid, drop-put_mid}
+use Rattle.std.proofs.lemmas.List.Folds.{list_any_at, Any-from_list_any}
+use Rattle.std.proofs.lemmas.Grind.{get_or_default_zero}
+use Rattle.std.proofs.lemmas.Slice.Eq.{starts_is}
+use Rattle.std.proofs.lemmas.Bool.Decides.{Decides-eqb}
 use Rattle.std.proofs.Math.Seq.{ext_get_or}
 use borrow.Author.Tests.{eq-eqb, ne_eqb, eqb-true, eqb-false, not-true}
 use Rattle.records.specs.Rows.{every}
 use Rattle.records.specs.Numbers.{one, two_bytes, zeros}
-use Rattle.records.specs.RowLaws.{lowest_hit, lowest_misses, every_all, every_cong, lowest_is}
-use Rattle.records.specs.Tests.{and_left, and_right, both_ways}
+use Rattle.records.specs.RowLaws.{lowest_hit, lowest_misses, every_all, all_every, every_cong, lowest_is}
+use Rattle.records.specs.Tests.{and_left, and_right, both_ways, not_so}
 use Rattle.records.specs.RecordLaws.{sets-append}
 use Rattle.meaning.specs.Name.{same, entry, written, name_end, entry_in, record_at, entry_at}
 use Rattle.names.specs.SameLaws.{same_is, is_same, not_same}
@@ -38,6 +45,13 @@ module _ (table : List ℕ) (at : ℕ) (fits : at + 16 ≤ length table) where
   pub record_one : (j : ℕ) → j < 16 → one (record_from table at) j ≡ one table (at + j)
   unfolding record_from one
   record_one j h = rw (get_or-take, get_or-drop)
+
+  -- the 14 bytes of its name, as a slice of the table
+  pub field_is : take (at + 16 - (at + 2)) (drop (at + 2) table) ≡ drop 2 (record_from table at)
+  unfolding record_from
+  field_is =
+      let few : at + 16 - (at + 2) ≡ 14 = omega arith in
+      rw (few, ← drop-drop 2 at table) (sym (drop-take 2 14 (drop at table)))
 
 -- a directory's record i starts at byte 16 * i
 pub record_at_lem : (dir : List ℕ) (i : ℕ) → record_at dir i ≡ record_from dir (16 * i)
@@ -72,6 +86,22 @@ module _ (name : List ℕ) where
   pub padded-one : (i : ℕ) → get_or (padded name) i 0 ≡ one name i
   unfolding padded one
   padded-one i = one-padded name (14 - length name) i
+
+-- its bytes and then the zeros, laid into two parts of a table
+module _ (table name filled : List ℕ) (at : ℕ) (fits : at + 14 ≤ length table) (few : length name ≤ 14) where
+  pub laid_padded : filled ≡ replicate (at + 14 - (at + length name)) 0 →
+      put_mid (at + length name) (at + 14 - (at + length name)) (put_mid at (at + length name - at) table name) filled ≡ sets table at (padded name)
+  unfolding padded
+  laid_padded e =
+      let end = at + length name in
+      let size : length (padded name) ≡ 14 = length-padded name few in
+      let inside : at + length (padded name) ≤ length table = omega arith in
+      let low : at ≤ length table = omega arith in
+      let front = take-put_mid at (end - at) table name end refl low in
+      let back = drop-put_mid at (end - at) table name end (omega arith) low (omega arith) in
+      let m : at + 14 - end ≡ 14 - length name = omega arith in
+      let z : end + (14 - length name) ≡ at + 14 = omega arith in
+      rw (sets-eq (padded name) table at inside, size, e, front, back, m, drop-drop, z) (simp append_assoc)
 
 -- a record is a number of two bytes and then the name
 pub laid-written : (table name : List ℕ) (at f : ℕ) → sets (sets table at (two_bytes f)) (at + 2) (padded name) ≡ sets table at (written (entry f name))
@@ -137,3 +167,34 @@ module _ (r s : List ℕ) (size : length r ≡ 16) where
         let end : name_end r ≡ length s = same_end (same_is (entry_in r).name s t) in
         rw end at (lowest_hit 14 (λ i. eqb (one r (2 + i)) 0) (rw end l)))
         (λ z. is_same (entry_in r).name s (named (omega arith) (λ h. z)))
+
+  -- what the code reads: the 14 bytes behind the number, and whether they start with s
+  pub names_apart : starts_with eqb (drop 2 r) s ≡ false → same (entry_in r).name s ≡ false
+  unfolding entry_in
+  names_apart e =
+      not_same (entry_in r).name s
+      (λ d.
+      let rest = drop (name_end r) (drop 2 r) in
+      let all : drop 2 r ≡ s ++ rest = sym (take-append-drop (name_end r) (drop 2 r)) ∙ ap (λ l. l ++ rest) d in
+      true≢false (sym ((starts_is Decides-eqb (drop 2 r) s (starts_with eqb (drop 2 r) s) refl).1 rest all) ∙ e))
+
+  -- no name has a zero in it
+  pub names_zero : list_any (λ b. eqb b 0) s ≡ true → same (entry_in r).name s ≡ false
+  unfolding name_end one
+  names_zero e =
+      not_same (entry_in r).name s
+      (λ d.
+      let (j, b, within, is, zero) = Any-from_list_any (λ b. eqb b 0) s e in
+      let inside : j < name_end r = omega (arith, within, ap length d, name-length r size) in
+      eqb-false (one r (2 + j)) 0 (lowest_misses 14 (λ i. eqb (one r (2 + i)) 0) j inside)
+      (sym (name-one r size j inside) ∙ ap (λ l. get_or l j 0) d ∙ sym (get_or_default_zero s j b within) ∙ is ∙ eqb-true b 0 zero))
+
+  pub names_begun : starts_with eqb (drop 2 r) s ≡ true → list_any (λ b. eqb b 0) s ≡ false → begins r s (length s) ≡ true
+  unfolding begins one
+  names_begun e none =
+      let all = (starts_is Decides-eqb (drop 2 r) s (starts_with eqb (drop 2 r) s) refl).0 e in
+      all_every (length s) (λ j. eqb (one r (2 + j)) (one s j) && not (eqb (one r (2 + j)) 0))
+      (λ j h.
+      let reads : one r (2 + j) ≡ get_or s j 0 = sym (get_or-drop 2 r j 0) ∙ ap (λ l. get_or l j 0) all ∙ get_or-append s (drop (length s) (drop 2 r)) 0 j h in
+      let some : eqb (get_or s j 0) 0 ≡ false = not_so (eqb (get_or s j 0) 0) (λ t. true≢false (sym (list_any_at (λ b. eqb b 0) s j 0 h t) ∙ none)) in
+      rw (reads, eq-eqb (get_or s j 0) (get_or s j 0) refl, some))

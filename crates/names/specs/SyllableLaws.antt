@@ -3,11 +3,12 @@ use Rattle.std.specs.Prelude.{ℕ, zero, suc, ◌+◌, ◌-◌, ◌≤◌, ◌<�
 use Rattle.std.proofs.Common.{ap, subst, ◌∙◌, ⊎_elim, add-one, arith, length-take, length-drop, get_or-take, get_or-drop, lt-ltb, le-ltb}
 use Rattle.records.specs.Rows.{pick, lowest_from}
 use Rattle.records.specs.Numbers.{one}
-use Rattle.records.specs.RowLaws.{Found, from_found}
+use Rattle.records.specs.RowLaws.{from_found}
 use Rattle.records.specs.Tests.{lt_or_ge}
 use Rattle.records.specs.ListLaws.{drop_none, drop-one}
 use Rattle.meaning.specs.Name.{is_syllable, before, split}
 use Rattle.paths.specs.Taking.{is_slash, syllable_end}
+use Rattle.paths.specs.TakingLaws.{ends}
 use Rattle.names.specs.Syllables.{part, rest_from, syllables_from, Reaches}
 
 -- ---- parts
@@ -24,15 +25,11 @@ module _ (bytes : List ℕ) (from to : ℕ) where
 -- ---- where a syllable ends
 
 module _ (bytes : List ℕ) (at : ℕ) where
-  pub ends : Found at (length bytes - at) (is_slash bytes) (syllable_end bytes at)
-  unfolding syllable_end
-  ends = from_found at (length bytes - at) (is_slash bytes)
-
   pub end_low : at ≤ syllable_end bytes at
-  end_low = ends.low
+  end_low = (ends bytes at).low
 
   pub end-within : at ≤ length bytes → syllable_end bytes at ≤ length bytes
-  end-within h = omega (arith, ends.high)
+  end-within h = omega (arith, (ends bytes at).high)
 
 -- ---- what stands between the slashes, from a place on
 

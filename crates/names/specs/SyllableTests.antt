@@ -1,17 +1,28 @@
 -- A syllable: 1 to 14 bytes, none of them 0 or "/". What the test says, both ways.
-use Rattle.std.specs.Prelude.{ℕ, ◌≤◌, ◌<◌, ◌≡◌, List, Bool, true, false, not, ◌&&◌, ltb, eqb, length}
+use Rattle.std.specs.Prelude.{ℕ, ◌≤◌, ◌<◌, ◌≡◌, refl, List, [], ◌∷◌, Bool, true, false, not, ◌&&◌, ltb, eqb, length, get_or}
+use Rattle.std.specs.List.{list_all}
+use Rattle.std.proofs.Common.{ap, ◌∙◌, ⊎_elim, arith}
 use Rattle.std.proofs.Math.Dec.{leb}
 use borrow.Author.Tests.{lt-ltb, le-leb, lt-leb, ltb-true, leb-true, not-true}
 use Rattle.records.specs.Rows.{every}
 use Rattle.records.specs.Numbers.{one}
-use Rattle.records.specs.RowLaws.{every_all}
-use Rattle.records.specs.Tests.{and_left, and_right, and_false}
+use Rattle.records.specs.RowLaws.{every_all, every_front}
+use Rattle.records.specs.Tests.{and_left, and_right, and_false, lt_or_ge, le_or_gt}
 use Rattle.records.specs.LoopLaws.{every_fail}
 use Rattle.meaning.specs.Name.{slash, is_syllable}
 
 -- a byte of a syllable: neither 0 nor "/"
+abbrev pub plain_byte : ℕ → Bool
+plain_byte b = not (eqb b 0) && not (eqb b slash)
+
 abbrev pub is_plain : List ℕ → ℕ → Bool
-is_plain s i = not (eqb (one s i) 0) && not (eqb (one s i) slash)
+is_plain s i = plain_byte (one s i)
+
+-- a test of each byte of a row, as the library has it
+pub every_byte : (p : ℕ → Bool) (s : List ℕ) → every (length s) (λ i. p (one s i)) ≡ list_all p s
+unfolding every one
+every_byte p [] = refl
+every_byte p (b ∷ s) = every_front (length s) (λ i. p (get_or (b ∷ s) i 0)) ∙ ap (λ t. p b && t) (every_byte p s)
 
 module _ (s : List ℕ) where
   pub syllable_none : length s ≡ 0 → is_syllable s ≡ false
@@ -25,6 +36,14 @@ module _ (s : List ℕ) where
   pub syllable_not : (i : ℕ) → i < length s → is_plain s i ≡ false → is_syllable s ≡ false
   unfolding is_syllable
   syllable_not i h e = rw (every_fail (is_plain s) i (length s) h e, and_false (ltb 0 (length s) && leb (length s) 14))
+
+  -- one whose length is that of a syllable, and one whose length is not
+  pub syllable_sized : 1 ≤ length s → length s ≤ 14 → is_syllable s ≡ list_all plain_byte s
+  unfolding is_syllable
+  syllable_sized l h = rw (lt-ltb 0 (length s) l, le-leb (length s) 14 h, every_byte plain_byte s)
+
+  pub syllable_unsized : (1 ≤ length s → length s ≤ 14 → ⊥) → is_syllable s ≡ false
+  syllable_unsized h = ⊎_elim (λ (l : length s ≤ 14). ⊎_elim (λ (m : length s < 1). syllable_none (omega arith)) (λ (m : 1 ≤ length s). absurd (h m l)) (lt_or_ge (length s) 1)) (λ l. syllable_long l) (le_or_gt (length s) 14)
 
   pub syllable_yes : 0 < length s → length s ≤ 14 → every (length s) (is_plain s) ≡ true → is_syllable s ≡ true
   unfolding is_syllable

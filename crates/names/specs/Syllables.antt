@@ -1,11 +1,10 @@
 -- A name taken from the left, one syllable at a time (01, "Names").
 use Rattle.std.specs.Prelude.{ℕ, zero, suc, ◌+◌, ◌-◌, ◌≤◌, ◌≡◌, List, [], ◌∷◌, true, ◌&&◌, length, take, drop, get_or, leb, ltb}
 use Rattle.std.proofs.Math.Option.{Option, none, some}
+use Rattle.std.specs.Prelude.{Option as Answer, Some, None}
 use Rattle.records.specs.Rows.{pick, lowest, every}
 use Rattle.meaning.specs.Name.{most_syllables, is_syllable, split}
 use Rattle.paths.specs.Taking.{is_slash, syllable_end}
-use Rattle.names.specs.declared.NameForm.{NameForm}
-use Rattle.names.specs.declared.NameForm.TheVariants.{Syllables, Bad}
 
 -- the bytes from one place up to another
 unfoldable pub part : List ℕ → ℕ → ℕ → List ℕ
@@ -35,12 +34,12 @@ place_of bytes (suc k) = syllable_end bytes (place_of bytes k) + 1
 unfoldable pub last_start : List ℕ → ℕ
 last_start bytes = length bytes - lowest (length bytes) (λ i. is_slash bytes (length bytes - 1 - i))
 
--- how many syllables a name has, or that it is not written as a name
-unfoldable pub form_of : Option (List (List ℕ)) → NameForm
-form_of none = Bad
-form_of (some name) = Syllables (length name)
+-- how many syllables a name has; none where it is not written as a name
+unfoldable pub form_of : Option (List (List ℕ)) → Answer ℕ
+form_of none = None
+form_of (some name) = Some (length name)
 
 -- the form of k syllables followed by some pieces
-unfoldable pub form_with : ℕ → List (List ℕ) → NameForm
+unfoldable pub form_with : ℕ → List (List ℕ) → Answer ℕ
 form_with k pieces =
-    pick (leb (k + length pieces) most_syllables && every (length pieces) (λ i. is_syllable (get_or pieces i []))) (Syllables (k + length pieces)) Bad
+    pick (leb (k + length pieces) most_syllables && every (length pieces) (λ i. is_syllable (get_or pieces i []))) (Some (k + length pieces)) None

@@ -1,44 +1,49 @@
 -- A name of a sound store, judged and located: what the calls on names go by.
-use Rattle.std.specs.Prelude.{ℕ, ◌≡◌, ◌≢◌, List, Bool, length}
+use Rattle.std.specs.Prelude.{ℕ, ◌≡◌, refl, ◌≢◌, List, Bool, true, false, length, Ok}
 use Rattle.std.proofs.Common.{ap, sym, ◌∙◌}
-use Rattle.std.proofs.Math.Bool.{true, false}
 use Rattle.std.proofs.Math.Option.{some}
-use borrow.Author.Tests.{eq-eqb, ne_eqb}
 use Rattle.meaning.specs.Name.{syllables}
-use Rattle.meaning.specs.Store.{root, is_directory, named, front}
+use Rattle.meaning.specs.Store.{Store, root, is_directory, named, front}
 use Rattle.meaning.specs.Tables.{Tables, tables, store_of}
 use Rattle.meaning.specs.Sound.{sound}
 use Rattle.meaning.specs.Result.{Result, unless, with_syllables, missing, nowhere}
 use Rattle.meaning.specs.NameCalls.{parent}
+use Rattle.meaning.specs.declared.FileNo.{FileNo}
 use Rattle.names.specs.FormLaws.{Counted}
 use Rattle.soundness.specs.Seen.{files_store, is_directory-seen}
 use Rattle.lookup.specs.Walk.{named-walk}
-use Rattle.lookup.specs.Filed.{filed, Shelves, shelves, walk-seen}
-use Rattle.naming.specs.Judged.{Spelled, OnName, on_name_of, spelled}
-use Rattle.naming.specs.Located.{Locates}
+use Rattle.lookup.specs.Filed.{filed, Shelves, shelves, walk-seen, directory-seen}
+use Rattle.naming.specs.Judged.{Judged, Spelled, OnName, on_name_of, spelled}
+use Rattle.naming.specs.Located.{Locates, located, nowhere_is, new_missing, new_unnamed, new_directory, new_in, new_somewhere, old_there, old_in, old_file, old_somewhere}
 use Rattle.naming.specs.declared.Located.{Located}
-use Rattle.naming.specs.declared.Judged.{Judged}
-use Rattle.naming.specs.declared.Judged.TheVariants.{Syllables}
+use Rattle.naming.specs.declared.Located.TheVariants.{Nowhere, New, Old}
 
--- the bytes spell a name of k syllables; x has the directory that it lies in and the file that it stands for
+-- the bytes spell a name of k syllables, and x is where it stands
 pub record At (t : Tables) (bytes : List ℕ) (k : ℕ) (x : Located) : Type 0 where
   pub ok : sound t ≡ true
   pub name : List (List ℕ)
   pub is : syllables bytes ≡ some name
   pub count : length name ≡ k
-  pub dir : x.parent.0 ≡ parent (store_of t) name
-  pub stands : x.file.0 ≡ named (store_of t) name
+  pub stands : x ≡ located (store_of t) name
 
 module _ (b br fr cr : List ℕ) where
   pub named-seen : (name : List (List ℕ)) → named (filed b br fr) name ≡ named (store_of (tables b br fr cr)) name
   named-seen name = named-walk (filed b br fr) name ∙ sym (walk-seen b br fr cr root name) ∙ sym (named-walk (store_of (tables b br fr cr)) name)
+
+  pub missing-seen : (name : List (List ℕ)) → missing (filed b br fr) name ≡ missing (store_of (tables b br fr cr)) name
+  unfolding missing
+  missing-seen name = rw (named-seen name)
+
+  located-seen : (name : List (List ℕ)) → located (filed b br fr) name ≡ located (store_of (tables b br fr cr)) name
+  unfolding located parent
+  located-seen name =
+      rw (missing-seen name, named-seen name, named-seen (front name), ← directory-seen b br fr cr (named (store_of (tables b br fr cr)) (front name)))
 
   -- a name that is judged can be located, and then stands where it is found
   pub judged_shelves : (bytes : List ℕ) (k : ℕ) → Spelled (tables b br fr cr) bytes k → Shelves b br fr
   judged_shelves bytes k s = shelves b br fr cr s.ok
 
   pub stands_at : (bytes : List ℕ) (k : ℕ) → Spelled (tables b br fr cr) bytes k → (x : Located) → Locates (filed b br fr) bytes x → At (tables b br fr cr) bytes k x
-  unfolding parent
   stands_at bytes k s x l =
       let n = s.counted.name in
       record {
@@ -46,40 +51,61 @@ module _ (b br fr cr : List ℕ) where
         name = n;
         is = s.counted.is;
         count = s.counted.count;
-        dir = l.dir n s.counted.is ∙ named-seen (front n);
-        stands = l.stands n s.counted.is ∙ named-seen n;
+        stands = l n s.counted.is ∙ located-seen n;
       }
 
--- ---- the tests of names, as the code makes them
+-- ---- the cases of a located name, as the code meets them
 
 module _ (t : Tables) (bytes : List ℕ) (k : ℕ) (x : Located) (a : At t bytes k x) where
-  pub is_missing : x.file.0 ≡ 0 → missing (store_of t) a.name ≡ true
-  unfolding missing
-  is_missing e = eq-eqb (named (store_of t) a.name) 0 (sym a.stands ∙ e)
+  abbrev s : Store
+  s = store_of t
 
-  pub not_missing : x.file.0 ≢ 0 → missing (store_of t) a.name ≡ false
-  unfolding missing
-  not_missing d = ne_eqb (named (store_of t) a.name) 0 (λ e. d (a.stands ∙ e))
+  pub is_nowhere : x ≡ Nowhere → (missing s a.name ≡ true) × (nowhere s a.name ≡ true)
+  is_nowhere e = nowhere_is s a.name x a.stands e
 
-  -- the file is a directory, or is not
-  pub file-directory : (v : Bool) → v ≡ is_directory (files_store t.file_records) x.file.0 → is_directory (store_of t) (named (store_of t) a.name) ≡ v
-  file-directory v e = ap (is_directory (store_of t)) (sym a.stands) ∙ is_directory-seen t x.file.0 ∙ sym e
+  -- a new name in a directory
+  module _ (d : FileNo) (at : x ≡ New d) where
+    pub is_missing : missing s a.name ≡ true
+    is_missing = new_missing s a.name x a.stands d at
 
-  pub parent-directory : (v : Bool) → v ≡ is_directory (files_store t.file_records) x.parent.0 → is_directory (store_of t) (parent (store_of t) a.name) ≡ v
-  parent-directory v e = ap (is_directory (store_of t)) (sym a.dir) ∙ is_directory-seen t x.parent.0 ∙ sym e
+    pub unnamed : named s a.name ≡ 0
+    unnamed = new_unnamed s a.name x a.stands d at
 
-  -- a new name without its directory
-  pub is_nowhere : x.file.0 ≡ 0 → is_directory (files_store t.file_records) x.parent.0 ≡ false → nowhere (store_of t) a.name ≡ true
-  unfolding nowhere parent
-  is_nowhere e d = rw (is_missing e, parent-directory false (sym d))
+    pub somewhere : nowhere s a.name ≡ false
+    somewhere = new_somewhere s a.name x a.stands d at
 
-  pub somewhere : x.file.0 ≡ 0 → is_directory (files_store t.file_records) x.parent.0 ≡ true → nowhere (store_of t) a.name ≡ false
-  unfolding nowhere parent
-  somewhere e d = rw (is_missing e, parent-directory true (sym d))
+    pub new_dir : d.0 ≡ parent s a.name
+    new_dir = new_in s a.name x a.stands d at
 
-  pub there : x.file.0 ≢ 0 → nowhere (store_of t) a.name ≡ false
-  unfolding nowhere
-  there d = rw (not_missing d)
+    pub parent-directory : is_directory s (parent s a.name) ≡ true
+    parent-directory = new_directory s a.name x a.stands d at
+
+  -- a name that stands for a file
+  module _ (d f : FileNo) (at : x ≡ Old d f) where
+    pub not_missing : missing s a.name ≡ false
+    not_missing = old_there s a.name x a.stands d f at
+
+    pub there : nowhere s a.name ≡ false
+    there = old_somewhere s a.name x a.stands d f at
+
+    pub old_dir : d.0 ≡ parent s a.name
+    old_dir = old_in s a.name x a.stands d f at
+
+    pub stands_for : f.0 ≡ named s a.name
+    stands_for = old_file s a.name x a.stands d f at
+
+    -- it is a directory, or is not
+    pub file-directory : (v : Bool) → v ≡ is_directory (files_store t.file_records) f.0 → is_directory s (named s a.name) ≡ v
+    file-directory v e = ap (is_directory s) (sym stands_for) ∙ is_directory-seen t f.0 ∙ sym e
+
+  -- a name that stands for no file
+  not_old_is : (y : Located) → x ≡ y → ((d f : FileNo) → y ≢ Old d f) → missing s a.name ≡ true
+  not_old_is Nowhere e other = (is_nowhere e).0
+  not_old_is (New d) e other = is_missing d e
+  not_old_is (Old d f) e other = absurd (other d f refl)
+
+  pub not_old : ((d f : FileNo) → x ≢ Old d f) → missing s a.name ≡ true
+  not_old = not_old_is x refl
 
   -- what follows on the name is what the call gives
   pub follows : (rest : List (List ℕ) → Result) → rest a.name ≡ on_name_of t bytes rest
@@ -88,7 +114,7 @@ module _ (t : Tables) (bytes : List ℕ) (k : ℕ) (x : Located) (a : At t bytes
 
 -- ---- the same, as the code has it: a name judged well written, then located
 
-module _ (b br fr cr bytes : List ℕ) (h : Judged) (on : OnName (tables b br fr cr) bytes h) (k : ℕ) (e : h ≡ Syllables k) where
+module _ (b br fr cr bytes : List ℕ) (h : Judged) (on : OnName (tables b br fr cr) bytes h) (k : ℕ) (e : h ≡ Ok k) where
   pub located_shelves : Shelves b br fr
   located_shelves = judged_shelves b br fr cr bytes k (spelled (tables b br fr cr) bytes h on k e)
 

@@ -1,114 +1,72 @@
 // A name judged, located and its record found: what every call on names begins with.
 #![tactic(auto)]
 
-ghost use Rattle.meaning.specs.Tables.{tables};
 ghost use Rattle.meaning.specs.Name.{syllables};
+ghost use Rattle.meaning.specs.Types.{tables_of};
 ghost use Rattle.names.specs.FormLaws.{Counted};
-ghost use Rattle.lookup.specs.Filed.{filed, Shelves};
+ghost use Rattle.lookup.specs.Filed.{filed_in, ShelvesIn};
 ghost use Rattle.naming.specs.Judged.{OnName};
-ghost use Rattle.naming.specs.Located.{Locates, Recorded, InPlace};
+ghost use Rattle.naming.specs.Located.{Locates, Recorded, NewIn, OldIn};
 
 use directories::{find_blank, find_named};
 use lookup::{look_in, lookup, record_count};
-use meaning::{FileNo, Report};
-use names::{NameForm, last_start, name_form};
-use soundness::is_sound;
+use meaning::{FileNo, Lent, Report};
+use names::{last_syllable, name_form};
+use soundness::{is_directory, is_sound};
 
 // How many syllables a name has, or the refusal that comes before any other of a call on a name.
-#[derive(Clone, Copy)]
-pub enum Judged {
-    Syllables(usize),
-    Refused(Report),
-}
-
-pub fn judge_name(
-    blocks: &[u8],
-    block_records: &[u8],
-    file_records: &[u8],
-    channel_records: &[u8],
-    name: &[u8],
-) -> Judged
-    ensures { OnName (tables blocks.now block_records.now file_records.now channel_records.now) name.now result }
+pub fn judge_name(store: &Lent, name: &[u8]) -> Result<usize, Report>
+    ensures { OnName (tables_of store.now) name.now result }
 {
-    if !is_sound(blocks, block_records, file_records, channel_records) {
-        return Judged::Refused(Report::NotAStore);
+    if !is_sound(store) {
+        return Err(Report::NotAStore);
     }
-    let form = name_form(name);
-    match form {
-        NameForm::Bad => Judged::Refused(Report::BadName),
-        NameForm::Syllables(k) => Judged::Syllables(k),
-    }
+    name_form(name).ok_or(Report::BadName)
 }
 
-// The directory that a name lies in, and the file that it stands for; 0 where there is none.
-#[derive(Clone, Copy)]
-pub struct Located {
-    pub parent: FileNo,
-    pub file: FileNo,
+// Where a name stands: its directory is not there; the name is new in it; or the directory, and the file that it stands for.
+#[derive(Clone, Copy, Debug, PartialEq, Eq)]
+pub enum Located {
+    Nowhere,
+    New(FileNo),
+    Old(FileNo, FileNo),
 }
 
 // A name of k syllables looked up.
-pub fn locate(
-    blocks: &[u8],
-    block_records: &[u8],
-    file_records: &[u8],
-    name: &[u8],
-    k: usize,
-) -> Located
-    requires shelves { Shelves blocks.now block_records.now file_records.now }
+pub fn locate(store: &Lent, name: &[u8], k: usize) -> Located
+    requires shelves { ShelvesIn store.now }
     requires k_counted { Counted (syllables name.now) k }
-    ensures { Locates (filed blocks.now block_records.now file_records.now) name.now result }
+    ensures { Locates (filed_in store.now) name.now result }
 {
     if k == 0 {
-        return Located {
-            parent: FileNo(1),
-            file: FileNo(1),
-        };
+        return Located::Old(FileNo::ROOT, FileNo::ROOT);
     }
-    let parent = lookup(
-        blocks,
-        block_records,
-        file_records,
-        FileNo(1),
-        name,
-        1,
-        k - 1,
-    );
-    let file = look_in(
-        blocks,
-        block_records,
-        file_records,
-        parent,
-        name,
-        last_start(name),
-        name.len(),
-    );
-    Located { parent, file }
+    let Some(d) = lookup(store, FileNo::ROOT, name, 1, k - 1) else {
+        return Located::Nowhere;
+    };
+    if !is_directory(store.file_records, d) {
+        return Located::Nowhere;
+    }
+    match look_in(store, d, last_syllable(name)) {
+        Some(file) => Located::Old(d, file),
+        None => Located::New(d),
+    }
 }
 
-// Where the record of a located name is, or goes: its own, or the first blank one, or the end.
-pub fn record_for(
-    blocks: &[u8],
-    block_records: &[u8],
-    file_records: &[u8],
-    name: &[u8],
-    at: Located,
-) -> usize
-    requires { InPlace blocks.now block_records.now file_records.now name.now at }
-    ensures { Recorded (filed blocks.now block_records.now file_records.now) name.now result }
+// Where the record of a new name goes in directory d: to the first blank one, or to the end.
+pub fn new_record(store: &Lent, name: &[u8], d: FileNo) -> usize
+    requires { NewIn store.now.blocks.now store.now.block_records.now store.now.file_records.now name.now d.0 }
+    ensures { Recorded (filed_in store.now) name.now result }
 {
-    let d = at.parent;
-    let count = record_count(file_records, d);
-    if at.file.0 == 0 {
-        return find_blank(blocks, block_records, d, count);
-    }
-    find_named(
-        blocks,
-        block_records,
-        d,
-        count,
-        name,
-        last_start(name),
-        name.len(),
-    )
+    let count = record_count(store.file_records, d);
+    find_blank(store, d, count).unwrap_or(count)
+}
+
+// Where the record of a name is in directory d.
+pub fn own_record(store: &Lent, name: &[u8], d: FileNo) -> usize
+    requires { OldIn store.now.blocks.now store.now.block_records.now store.now.file_records.now name.now d.0 }
+    ensures { Recorded (filed_in store.now) name.now result }
+{
+    let count = record_count(store.file_records, d);
+    find_named(store, d, count, last_syllable(name)).unwrap_or(count)
 }

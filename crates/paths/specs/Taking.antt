@@ -1,12 +1,10 @@
 -- A name that is read from the left (01, "Names"): the next syllable, and what is left behind it.
-use Rattle.std.specs.Prelude.{ℕ, ◌+◌, ◌-◌, List, Bool, length, ltb, eqb}
+use Rattle.std.specs.Prelude.{ℕ, ◌+◌, ◌-◌, List, Bool, Option, Some, None, length, ltb, eqb}
 use Rattle.std.specs.Borrow.{Bor}
 use Rattle.records.specs.Rows.{pick, lowest_from}
 use Rattle.records.specs.Numbers.{one}
 use Rattle.meaning.specs.Name.{slash}
 use Rattle.paths.specs.declared.PathReader.{PathReader}
-use Rattle.paths.specs.declared.Taken.{Taken}
-use Rattle.paths.specs.declared.Taken.TheVariants.{Syllable, Nothing}
 
 -- a slash stands at place i
 abbrev pub is_slash : List ℕ → ℕ → Bool
@@ -16,14 +14,9 @@ is_slash name i = eqb (one name i) slash
 unfoldable pub syllable_end : List ℕ → ℕ → ℕ
 syllable_end name at = lowest_from at (length name - at) (is_slash name)
 
--- the syllable that starts at a place; none where the name is at its end
-abbrev pub taken_at : List ℕ → ℕ → Taken
-taken_at name at = pick (ltb at (length name)) (Syllable at (syllable_end name at)) Nothing
-
--- where what was taken at a place ends
-abbrev pub end_taken : Taken → ℕ → ℕ
-end_taken (Syllable start end) at = end
-end_taken Nothing at = at
+-- the same; none where the name is at its end
+abbrev pub taken_at : List ℕ → ℕ → Option ℕ
+taken_at name at = pick (ltb at (length name)) (Some (syllable_end name at)) None
 
 -- the place behind a syllable's end: behind the slash, or the end of the name
 abbrev pub behind : List ℕ → ℕ → ℕ

@@ -1,15 +1,14 @@
 -- Free channels and files, as a search of the records finds them.
-use Rattle.std.specs.Prelude.{ℕ, ◌+◌, ◌≤◌, ◌<◌, ◌≡◌, true, false}
+use Rattle.std.specs.Prelude.{ℕ, ◌+◌, ◌≤◌, ◌<◌, ◌≡◌, refl, true, false, Option, Some, None, Result, Ok, Err, ok_or}
 use Rattle.std.proofs.Common.{sym, ◌∙◌, arith}
 use borrow.Author.Tests.{lt-ltb, le-ltb}
 use Rattle.meaning.specs.Store.{free_file, free_channel}
 use Rattle.meaning.specs.Tables.{Tables, store_of, file_count, channel_count}
 use Rattle.meaning.specs.Sound.{sound}
 use Rattle.meaning.specs.Result.{all_open, all_used}
+use Rattle.meaning.specs.declared.Report.{Report}
 use Rattle.meaning.specs.declared.FileNo.{FileNo}
 use Rattle.meaning.specs.declared.ChannelNo.{ChannelNo}
-use Rattle.tables.specs.declared.FoundFile as file
-use Rattle.tables.specs.declared.FoundChannel as channel
 use Rattle.tables.specs.Searches.{channel_with, channel_found, file_with, file_found}
 use Rattle.tables.specs.Found.{found-file, no_file_lem, found_channel, no_channel_lem}
 use Rattle.tables.specs.StoreLaws.{free_channel_lem, free_file_lem}
@@ -21,18 +20,36 @@ use Rattle.keeping.proofs.Proofs as K
 pub sized : (t : Tables) → sound t ≡ true → Sized (store_of t)
 sized t ok = K.sized t (sound_layout t ok).lengths
 
-module _ (t : Tables) (x : channel.FoundChannel) (found : x ≡ channel_found (channel_count t.channel_records) (channel_with t.channel_records 0)) where
+-- how many channels and files a search goes through
+module _ (t : Tables) (ok : sound t ≡ true) where
+  pub few-channels : channel_count t.channel_records ≤ 4294967296
+  few-channels = omega (arith, (sound_layout t ok).lengths.few-channels)
+
+  pub few-files : file_count t.file_records < 65536
+  few-files = omega (arith, (sound_layout t ok).lengths.few-files)
+
+-- what a search found, or the report where it found nothing
+module _ {A : Type 0} (r : Report) where
+  pub reports : (x : Option A) (why : Report) → ◌≡◌ {A = Result A Report} (Err why) (ok_or x r) → (x ≡ None) × (why ≡ r)
+  reports None why e = (refl, cc)
+  reports (Some v) why e = let z : ◌≡◌ {A = ℕ} 0 1 = cc in absurd (omega arith)
+
+  pub finds : (x : Option A) (v : A) → ◌≡◌ {A = Result A Report} (Ok v) (ok_or x r) → x ≡ Some v
+  finds None v e = let z : ◌≡◌ {A = ℕ} 0 1 = cc in absurd (omega arith)
+  finds (Some w) v e = cc
+
+module _ (t : Tables) (x : Option ChannelNo) (found : x ≡ channel_found (channel_count t.channel_records) (channel_with t.channel_records 0)) where
   abbrev its_channel : ℕ
   its_channel = channel_with t.channel_records 0
 
   abbrev channels : ℕ
   channels = channel_count t.channel_records
 
-  pub no_channel_free : x ≡ channel.TheVariants.Nowhere → all_open (store_of t) ≡ true
+  pub no_channel_free : x ≡ None → all_open (store_of t) ≡ true
   unfolding all_open store_of
   no_channel_free e = rw (free_channel_lem t, le-ltb its_channel channels (no_channel_lem channels its_channel x found e))
 
-  module _ (c : ChannelNo) (e : x ≡ channel.TheVariants.At c) where
+  module _ (c : ChannelNo) (e : x ≡ Some c) where
     pub channel_free : free_channel (store_of t) ≡ c.0
     channel_free = free_channel_lem t ∙ sym (found_channel channels its_channel x found c e).1
 
@@ -43,18 +60,18 @@ module _ (t : Tables) (x : channel.FoundChannel) (found : x ≡ channel_found (c
     unfolding all_open store_of
     some_channel_free = rw (channel_free, lt-ltb c.0 channels channel_below)
 
-module _ (t : Tables) (x : file.FoundFile) (found : x ≡ file_found (file_count t.file_records) (file_with t.file_records 0)) where
+module _ (t : Tables) (x : Option FileNo) (found : x ≡ file_found (file_count t.file_records) (file_with t.file_records 0)) where
   abbrev its_record : ℕ
   its_record = file_with t.file_records 0
 
   abbrev files : ℕ
   files = file_count t.file_records
 
-  pub no_file_free : x ≡ file.TheVariants.Nowhere → all_used (store_of t) ≡ true
+  pub no_file_free : x ≡ None → all_used (store_of t) ≡ true
   unfolding all_used store_of
   no_file_free e = rw (free_file_lem t, lt-ltb files (its_record + 1) (omega (arith, no_file_lem files its_record x found e)))
 
-  module _ (f : FileNo) (e : x ≡ file.TheVariants.At f) where
+  module _ (f : FileNo) (e : x ≡ Some f) where
     pub file_free : free_file (store_of t) ≡ f.0
     file_free = free_file_lem t ∙ sym (found-file files its_record x found f e).1
 

@@ -1,3 +1,4 @@
 pub mod Free
 pub mod Room
 pub mod NewName
+pub mod OldName

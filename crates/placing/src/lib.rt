@@ -1,2 +1,2 @@
-// What every call that gives a name asks of the store: a free number, and the place and room of the name's record. Laws in specs/.
+// What calls on names ask of the store: a free number, the place and the room of a new name's record, and the place of an old one. Laws in specs/.
 #![tactic(auto)]

@@ -1,5 +1,5 @@
 -- A directory with a record written is the file with 16 bytes written into it.
-use Prim.Native.Nat.{ℕ, ◌+◌, ◌-◌, ◌*◌, ◌≤◌}
+use Prim.Native.Nat.{ℕ, ◌+◌, ◌*◌, ◌≤◌}
 use Rattle.std.specs.Prelude.{◌≡◌, true}
 use Rattle.std.proofs.Math.Path.{ap}
 use Rattle.std.proofs.Common.{sym, subst, ◌∙◌, arith}
@@ -12,7 +12,6 @@ use Rattle.meaning.specs.NameCalls.{rewritten}
 use Rattle.meaning.specs.Tables.{Tables, tables, store_of, put}
 use Rattle.layout.specs.Fits.{FileFits}
 use Rattle.names.specs.Syllables.{part, last_start}
-use Rattle.names.specs.SyllableLaws.{length_part}
 use Rattle.names.specs.SyllableTests.{syllable_short}
 use Rattle.names.specs.RecordLaws.{length-written}
 use Rattle.soundness.specs.Use.{directory-kind}
@@ -52,13 +51,13 @@ module _ (blocks records files : List ℕ) (d i : ℕ) (r : List ℕ) (w : Rewri
 -- ---- the record as the code builds it
 
 module _ (name : List ℕ) (inside : last_start name ≤ length name) (is : is_syllable (part name (last_start name) (length name)) ≡ true) where
-  pub short_last : length name - last_start name ≤ 14
-  short_last = omega (arith, syllable_short (part name (last_start name) (length name)) is, length_part name (last_start name) (length name) inside (omega arith))
+  pub short_last : (syllable : List ℕ) → syllable ≡ part name (last_start name) (length name) → length syllable ≤ 14
+  short_last syllable e = rw e (syllable_short (part name (last_start name) (length name)) is)
 
   -- 16 bytes laid over 16 zeros
-  pub record_built : (f from : ℕ) (built : List ℕ) → from ≡ last_start name → built ≡ sets (replicate 16 0) 0 (written (entry f (part name from (length name)))) → built ≡ record_of f name
+  pub record_built : (f : ℕ) (syllable built : List ℕ) → syllable ≡ part name (last_start name) (length name) → built ≡ sets (replicate 16 0) 0 (written (entry f syllable)) → built ≡ record_of f name
   unfolding record_of
-  record_built f from built e b =
+  record_built f syllable built e b =
       let v = written (entry f (part name (last_start name) (length name))) in
       let size : length v ≡ 16 = length-written (entry f (part name (last_start name) (length name))) is in
       let zeros : List ℕ = replicate 16 0 in

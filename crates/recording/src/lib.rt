@@ -1,4 +1,5 @@
 // A name's record written into its directory, or made blank.
+// Tables that are changed are taken one by one; `channels` says why.
 #![tactic(auto)]
 
 ghost use Rattle.std.specs.Prelude.{◌≡◌, ◌+◌, ◌*◌, ◌≤◌, ◌<◌, max, length, true};
@@ -12,8 +13,8 @@ ghost use Rattle.recording.specs.Fit.{FitsIn};
 ghost use Rattle.recording.specs.Recording.{Rewritable, Rewrites, record_of};
 
 use files::write_file;
-use meaning::{FileNo, LONGEST, Report};
-use names::{last_start, write_record};
+use meaning::{FileNo, LONGEST, Lent, Report};
+use names::{last_syllable, write_record};
 use tables::{count_free_blocks, file_record, places};
 
 // Record i of directory d comes to hold the last syllable of a name, for file f.
@@ -31,7 +32,7 @@ pub fn give_name(
     ensures { Rewrites blocks block_records file_records d.0 i (record_of f.0 name.now) }
 {
     let mut record = [0u8; 16];
-    write_record(&mut record, 0, f, name, last_start(name), name.len());
+    write_record(&mut record, 0, f, last_syllable(name));
     write_file(
         blocks,
         block_records,
@@ -65,30 +66,22 @@ pub fn take_name(
     );
 }
 
-// A directory has room for a record, or the refusal where it has none.
-#[derive(Clone, Copy)]
-pub enum Fit {
-    Fits,
-    No(Report),
-}
-
-// Whether directory d has room for its record i. Only a record past the end asks for any.
-pub fn record_fits(block_records: &[u8], file_records: &[u8], d: FileNo, i: usize) -> Fit
-    requires d_is_directory { is_directory (files_store file_records.now) d.0 ≡ true }
-    requires length_in_bounds { (file_length file_records.now d.0 ≤ 32768) × (i ≤ 2048) }
-    ensures { FitsIn (free_block_count block_records.now) (file_length file_records.now d.0) (max (file_length file_records.now d.0) (16 * i + 16)) result }
+// Whether directory d has room for its record i, or the refusal where it has none. Only a record past the end asks for any.
+pub fn record_fits(store: &Lent, d: FileNo, i: usize) -> Result<(), Report>
+    requires d_is_directory { is_directory (files_store store.now.file_records.now) d.0 ≡ true }
+    requires length_in_bounds { (file_length store.now.file_records.now d.0 ≤ 32768) × (i ≤ 2048) }
+    ensures { FitsIn (free_block_count store.now.block_records.now) (file_length store.now.file_records.now d.0) (max (file_length store.now.file_records.now d.0) (16 * i + 16)) result }
 {
-    let size = file_record(file_records, d).length as usize;
+    let size = file_record(store.file_records, d).length as usize;
     let end = 16 * i + 16;
     if end <= size {
-        return Fit::Fits;
+        return Ok(());
     }
     if (LONGEST as usize) < end {
-        return Fit::No(Report::TooBig);
+        return Err(Report::TooBig);
     }
-    let free = count_free_blocks(block_records);
-    if free < places(end) - places(size) {
-        return Fit::No(Report::NoRoom);
+    if count_free_blocks(store.block_records) < places(end) - places(size) {
+        return Err(Report::NoRoom);
     }
-    Fit::Fits
+    Ok(())
 }

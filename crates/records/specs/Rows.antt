@@ -1,6 +1,6 @@
 -- Rows of indices below a number: the lowest that passes a test, whether every one passes, how many pass, a sum,
 -- and the list that a rule makes of them. Every search, test and count of the store is one of these.
-use Rattle.std.specs.Prelude.{ℕ, zero, suc, ◌+◌, List, [], ◌∷◌, Bool, true, false, not, ◌&&◌}
+use Rattle.std.specs.Prelude.{ℕ, zero, suc, ◌+◌, List, [], ◌∷◌, Bool, true, false, not, ◌&&◌, Option, Some, None, ltb}
 
 -- the one or the other, by a test
 abbrev pub pick {ℓ} : {A : Type ℓ} → Bool → A → A → A
@@ -25,6 +25,13 @@ lowest_from i (suc n) p = let later = lowest_from (suc i) n p in pick (p i) i la
 -- the lowest index below n that passes, or n where none does
 unfoldable pub lowest : ℕ → (ℕ → Bool) → ℕ
 lowest n p = lowest_from 0 n p
+
+-- the same as an option: none where no index passes
+unfoldable pub found_below : ℕ → ℕ → Option ℕ
+found_below n i = pick (ltb i n) (Some i) None
+
+unfoldable pub lowest_below : ℕ → (ℕ → Bool) → Option ℕ
+lowest_below n p = found_below n (lowest n p)
 
 -- every index below n passes
 unfoldable pub every : ℕ → (ℕ → Bool) → Bool

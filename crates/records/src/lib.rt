@@ -1,6 +1,8 @@
 // Numbers in fixed-size records, low byte first. Definitions and laws, of rows of indices too, are in specs/.
 #![tactic(auto)]
 
+pub mod rows;
+
 ghost use Rattle.std.specs.Prelude.{◌≡◌, [], ◌∷◌, ◌+◌, ◌*◌, ◌≤◌, ◌<◌, length};
 ghost use Rattle.std.proofs.lemmas.List.Edits.{sets};
 ghost use Rattle.records.specs.Numbers.{one, two, four, two_bytes, four_bytes, zeros};
@@ -38,12 +40,10 @@ fn fours_zero(table: &[u8], at: usize, n: usize) -> bool
     requires { at + 4 * n ≤ length table.now }
     ensures { result ≡ zeros table.now at (4 * n) }
 {
-    let mut k = 0;
-    while k < n {
+    for k in 0..n {
         if four_at(table, at + 4 * k) != 0 {
             return false;
         }
-        k += 1;
     }
     true
 }
@@ -57,12 +57,10 @@ pub fn zeros_at(table: &[u8], at: usize, n: usize) -> bool
     if !fours_zero(table, at, fours) {
         return false;
     }
-    let mut i = 4 * fours;
-    while i < n {
+    for i in 4 * fours..n {
         if one_at(table, at + i) != 0 {
             return false;
         }
-        i += 1;
     }
     true
 }

@@ -1,17 +1,12 @@
 -- What a line asks for can be served: a read asks for no more than is lent.
-use Rattle.std.specs.Prelude.{ℕ, ◌≤◌, ◌≡◌, refl, Bool, true, false, List, [], ◌∷◌, length, leb, ltb}
-use Rattle.std.proofs.Common.{sym, subst, leb-true}
-use Rattle.std.proofs.Math.Option.{Option, none, some}
+use Rattle.std.specs.Prelude.{ℕ, ◌≤◌, ◌≡◌, refl, Bool, true, false, List, [], ◌∷◌, length, leb, ltb, Option, None, Some}
+use Rattle.std.proofs.Common.{leb-true}
 use Rattle.records.specs.Rows.{pick}
 use Rattle.meaning.specs.Name.{same}
 use Rattle.meaning.specs.Run.{Call, Prepare, Room, Create, Open, Unlink, Mkdir, Rmdir, Link, Move, Ls, Close, Fstat, Read, Write, Seek}
 use Rattle.text.specs.Line.{lent_bytes, longest_line, given, nothing, a_word, number, a_number, the_data, a_name, two_names, last_number, reading, Form, forms, formed, asked, first_word, after_word}
-use Rattle.text.specs.Commands.{Reads}
-use Rattle.text.specs.declared.Command.{Command}
-use Rattle.text.specs.declared.Command.TheVariants as C
-use Rattle.serving.specs.Kinds.{sorted, Servable}
 
-abbrev BriefCall : Call → Type 0
+abbrev pub BriefCall : Call → Type 0
 BriefCall Prepare = Unit
 BriefCall Room = Unit
 BriefCall (Create name) = Unit
@@ -29,8 +24,8 @@ BriefCall (Write c bytes) = Unit
 BriefCall (Seek c mode n) = Unit
 
 abbrev pub Brief : Option Call → Type 0
-Brief none = Unit
-Brief (some call) = BriefCall call
+Brief None = Unit
+Brief (Some call) = BriefCall call
 
 -- ---- each form of arguments
 
@@ -40,18 +35,18 @@ either false a b p q = q
 
 of_nothing : (call : Call) → BriefCall call → (rest : Option (List ℕ)) → Brief (nothing call rest)
 unfolding nothing
-of_nothing call h none = h
-of_nothing call h (some rest) = tt
+of_nothing call h None = h
+of_nothing call h (Some rest) = tt
 
 of_word : (k : List ℕ → Option (List ℕ) → Option Call) → ((word : List ℕ) (rest : Option (List ℕ)) → Brief (k word rest)) → (rest : Option (List ℕ)) → Brief (a_word k rest)
 unfolding a_word
-of_word k h none = tt
-of_word k h (some rest) = either (ltb 0 (length (first_word rest))) (k (first_word rest) (after_word rest)) none (h (first_word rest) (after_word rest)) tt
+of_word k h None = tt
+of_word k h (Some rest) = either (ltb 0 (length (first_word rest))) (k (first_word rest) (after_word rest)) None (h (first_word rest) (after_word rest)) tt
 
 of_given : (o : Option ℕ) (k : ℕ → Option Call) → ((n : ℕ) → Brief (k n)) → Brief (given o k)
 unfolding given
-of_given none k h = tt
-of_given (some n) k h = h n
+of_given None k h = tt
+of_given (Some n) k h = h n
 
 of_number : (k : ℕ → Option (List ℕ) → Option Call) → ((n : ℕ) (rest : Option (List ℕ)) → Brief (k n rest)) → (rest : Option (List ℕ)) → Brief (a_number k rest)
 unfolding a_number
@@ -59,9 +54,9 @@ of_number k h rest = of_word (λ word rest. given (number word) (λ n. k n rest)
 
 of_data : (call : List ℕ → Call) → ((bytes : List ℕ) → BriefCall (call bytes)) → (rest : Option (List ℕ)) → Brief (the_data call rest)
 unfolding the_data
-of_data call h none = h []
-of_data call h (some []) = tt
-of_data call h (some (b ∷ bytes)) = h (b ∷ bytes)
+of_data call h None = h []
+of_data call h (Some []) = tt
+of_data call h (Some (b ∷ bytes)) = h (b ∷ bytes)
 
 of_name : (call : List ℕ → Call) → ((name : List ℕ) → BriefCall (call name)) → (rest : Option (List ℕ)) → Brief (a_name call rest)
 unfolding a_name
@@ -79,7 +74,7 @@ of_reading : (c count : ℕ) (rest : Option (List ℕ)) → Brief (reading c cou
 unfolding reading
 of_reading c count rest = go (leb count lent_bytes) refl
   where
-    go : (t : Bool) → leb count lent_bytes ≡ t → Brief (pick t (nothing (Read c count) rest) none)
+    go : (t : Bool) → leb count lent_bytes ≡ t → Brief (pick t (nothing (Read c count) rest) None)
     go true e = of_nothing (Read c count) (leb-true count lent_bytes e) rest
     go false e = tt
 
@@ -142,24 +137,9 @@ all_brief = (
 
 pub asked-brief : (line : List ℕ) → Brief (asked line)
 unfolding asked
-asked-brief line = either (leb (length line) longest_line) (formed forms (first_word line) (after_word line)) none (of_formed forms all_brief (first_word line) (after_word line)) tt
+asked-brief line = either (leb (length line) longest_line) (formed forms (first_word line) (after_word line)) None (of_formed forms all_brief (first_word line) (after_word line)) tt
 
--- ---- a command that was read can be served
+-- ---- so does what some line of text asks for
 
-pub servable : (line : List ℕ) (command : Command) (call : Option Call) → Reads line command call → Brief call → Servable line (sorted command)
-servable line C.Unknown call r b = tt
-servable line C.Prepare call r b = tt
-servable line C.Room call r b = tt
-servable line (C.Create s) call r b = r.inside
-servable line (C.Open s) call r b = r.inside
-servable line (C.Unlink s) call r b = r.inside
-servable line (C.Mkdir s) call r b = r.inside
-servable line (C.Rmdir s) call r b = r.inside
-servable line (C.Link s t) call r b = r.inside
-servable line (C.Move s t) call r b = r.inside
-servable line (C.Ls s) call r b = r.inside
-servable line (C.Close c) call r b = tt
-servable line (C.Fstat c) call r b = tt
-servable line (C.Read c count) call r b = subst Brief (sym r.means) b
-servable line (C.Write c s) call r b = r.inside
-servable line (C.Seek c mode n) call r b = tt
+pub brief_asked : (call : Option Call) → (bytes : List ℕ) × (call ≡ asked bytes) → Brief call
+brief_asked call s = rw (s.1) (asked-brief s.0)

@@ -1,7 +1,5 @@
-pub mod Kinds
 pub mod Serves
 pub mod ServesLaws
 pub mod Shown
 pub mod Sizes
 pub mod Brief
-pub mod Pending

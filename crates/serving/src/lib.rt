@@ -1,194 +1,166 @@
-// A command carried out on the tables, and the line that is printed for it. Definitions are in specs/.
+// A call carried out on the tables, and the line that is printed for it behind what the output holds. Definitions are in specs/.
+// Tables that are changed are taken one by one; `channels` says why.
 #![tactic(auto)]
 
-mod no_argument;
-mod on_channels;
-mod on_names;
+mod filling;
 
-ghost use Rattle.std.specs.Prelude.{◌≡◌, ◌+◌, ◌≤◌, length};
+ghost use Rattle.std.specs.Prelude.{Some, List, ℕ, ◌+◌, ◌≤◌};
+ghost use Rattle.arrayvec.specs.ArrayVec.{array_vec_len};
 ghost use Rattle.meaning.specs.Run.{entered, left};
-ghost use Rattle.text.specs.Line.{longest_line};
-ghost use Rattle.text.specs.Commands.{commanded};
-ghost use Rattle.serving.specs.Kinds.{sorted, Servable};
-ghost use Rattle.serving.specs.Serves.{Serves, ServesLine, line_room};
+ghost use Rattle.text.specs.Line.{asked};
+ghost use Rattle.text.specs.Commands.{call_of};
+ghost use Rattle.text.specs.Gathering.{Pends};
+ghost use Rattle.serving.specs.Serves.{Serves, line_room};
+ghost use Rattle.serving.specs.Brief.{BriefCall};
 
-use no_argument::serve_plain;
-use on_channels::{serve_channel, serve_write};
-use on_names::{serve_name, serve_names};
+use channels::{close, fstat, seek};
+use filling::{serve_ls, serve_read};
+use folders::{mkdir, rmdir};
+use linking::{link, move_name};
+use meaning::{ChannelNo, Lent};
+use opening::{create, open};
+use rooms::{prepare, room};
+use text::Command;
 use text::lines::{Pending, ask};
-use text::{Command, Span};
+use text::print::{OUTPUT, Output, print_answer, print_unknown};
+use unlinking::unlink;
+use writing::write;
 
-// No argument, or no call.
-#[derive(Clone, Copy)]
-pub enum Plain {
-    Unknown,
-    Prepare,
-    Room,
-}
-
-// By a channel.
-#[derive(Clone, Copy)]
-pub enum OnChannel {
-    Close(u32),
-    Fstat(u32),
-    Read(u32, u32),
-    Seek(u32, u32, u32),
-}
-
-// By a name.
-#[derive(Clone, Copy)]
-pub enum OnName {
-    Create,
-    Open,
-    Unlink,
-    Mkdir,
-    Rmdir,
-    Ls,
-}
-
-// By two names.
-#[derive(Clone, Copy)]
-pub enum OnNames {
-    Link,
-    Move,
-}
-
-// A command by what it goes by.
-#[derive(Clone, Copy)]
-pub enum Kind {
-    Plain(Plain),
-    Channel(OnChannel),
-    Write(u32, Span),
-    Name(OnName, Span),
-    Names(OnNames, Span, Span),
-}
-
-fn sort(command: Command) -> Kind
-    ensures { result ≡ sorted command }
-{
-    match command {
-        Command::Unknown => Kind::Plain(Plain::Unknown),
-        Command::Prepare => Kind::Plain(Plain::Prepare),
-        Command::Room => Kind::Plain(Plain::Room),
-        Command::Create(s) => Kind::Name(OnName::Create, s),
-        Command::Open(s) => Kind::Name(OnName::Open, s),
-        Command::Unlink(s) => Kind::Name(OnName::Unlink, s),
-        Command::Mkdir(s) => Kind::Name(OnName::Mkdir, s),
-        Command::Rmdir(s) => Kind::Name(OnName::Rmdir, s),
-        Command::Link(s, t) => Kind::Names(OnNames::Link, s, t),
-        Command::Move(s, t) => Kind::Names(OnNames::Move, s, t),
-        Command::Ls(s) => Kind::Name(OnName::Ls, s),
-        Command::Close(c) => Kind::Channel(OnChannel::Close(c)),
-        Command::Fstat(c) => Kind::Channel(OnChannel::Fstat(c)),
-        Command::Read(c, count) => Kind::Channel(OnChannel::Read(c, count)),
-        Command::Write(c, s) => Kind::Write(c, s),
-        Command::Seek(c, mode, n) => Kind::Channel(OnChannel::Seek(c, mode, n)),
-    }
-}
-
-// Carries out a command whose parts lie within the line, and prints its line from a place on. The answer is the next place.
+// Carries out a command, and prints its line.
 pub fn serve(
     blocks: &mut [u8],
     block_records: &mut [u8],
     file_records: &mut [u8],
     channel_records: &mut [u8],
-    line: &[u8],
-    command: Command,
-    out: &mut [u8],
-    at: usize,
-) -> usize
-    requires servable { Servable line.now (sorted command) }
-    requires line_room_in_bounds { at + line_room ≤ length out.old }
-    ensures { Serves (commanded line.now command) (entered blocks block_records file_records channel_records) out.old at (left blocks block_records file_records channel_records) out.new result }
+    command: Command<'_>,
+    out: &mut Output,
+)
+    requires brief { BriefCall (call_of command) }
+    requires room { array_vec_len out.old + line_room ≤ OUTPUT }
+    ensures { Serves (Some (call_of command.entry)) (entered blocks block_records file_records channel_records) out.old.items (left blocks block_records file_records channel_records) out.new.items }
 {
-    let kind = sort(command);
-    match kind {
-        Kind::Plain(k) => serve_plain(
-            blocks,
-            block_records,
-            file_records,
-            channel_records,
-            k,
+    let store = Lent {
+        blocks,
+        block_records,
+        file_records,
+        channel_records,
+    };
+    match command {
+        Command::Prepare => print_answer(
             out,
-            at,
+            prepare(blocks, block_records, file_records, channel_records),
         ),
-        Kind::Channel(k) => serve_channel(
-            blocks,
-            block_records,
-            file_records,
-            channel_records,
-            k,
+        Command::Room => print_answer(out, room(&store)),
+        Command::Create(name) => print_answer(
             out,
-            at,
+            create(blocks, block_records, file_records, channel_records, name),
         ),
-        Kind::Write(c, s) => {
-            let from = s.from;
-            let to = s.to;
-            serve_write(
+        Command::Open(name) => print_answer(
+            out,
+            open(blocks, block_records, file_records, channel_records, name),
+        ),
+        Command::Unlink(name) => print_answer(
+            out,
+            unlink(blocks, block_records, file_records, channel_records, name),
+        ),
+        Command::Mkdir(name) => print_answer(
+            out,
+            mkdir(blocks, block_records, file_records, channel_records, name),
+        ),
+        Command::Rmdir(name) => print_answer(
+            out,
+            rmdir(blocks, block_records, file_records, channel_records, name),
+        ),
+        Command::Link(old, new) => print_answer(
+            out,
+            link(
                 blocks,
                 block_records,
                 file_records,
                 channel_records,
-                c,
-                &line[from..to],
-                out,
-                at,
-            )
-        }
-        Kind::Name(k, s) => {
-            let from = s.from;
-            let to = s.to;
-            serve_name(
+                old,
+                new,
+            ),
+        ),
+        Command::Move(old, new) => print_answer(
+            out,
+            move_name(
                 blocks,
                 block_records,
                 file_records,
                 channel_records,
-                k,
-                &line[from..to],
-                out,
-                at,
-            )
-        }
-        Kind::Names(k, s, t) => serve_names(
+                old,
+                new,
+            ),
+        ),
+        Command::Ls(name) => serve_ls(&store, name, out),
+        Command::Close(c) => print_answer(
+            out,
+            close(
+                blocks,
+                block_records,
+                file_records,
+                channel_records,
+                ChannelNo(c),
+            ),
+        ),
+        Command::Fstat(c) => print_answer(out, fstat(&store, ChannelNo(c))),
+        Command::Read(c, count) => serve_read(
             blocks,
             block_records,
             file_records,
             channel_records,
-            line,
-            k,
-            s,
-            t,
+            ChannelNo(c),
+            count,
             out,
-            at,
+        ),
+        Command::Write(c, bytes) => print_answer(
+            out,
+            write(
+                blocks,
+                block_records,
+                file_records,
+                channel_records,
+                ChannelNo(c),
+                bytes,
+            ),
+        ),
+        Command::Seek(c, mode, n) => print_answer(
+            out,
+            seek(
+                blocks,
+                block_records,
+                file_records,
+                channel_records,
+                ChannelNo(c),
+                mode,
+                n,
+            ),
         ),
     }
 }
 
-// Serves a line that has been put together in the line buffer. The answer is the next place.
+// Serves a line that has been put together.
 pub fn serve_line(
     blocks: &mut [u8],
     block_records: &mut [u8],
     file_records: &mut [u8],
     channel_records: &mut [u8],
-    buffer: &[u8],
-    line: Pending,
-    out: &mut [u8],
-    at: usize,
-) -> usize
-    requires longest_line_in_bounds { longest_line ≤ length buffer.now }
-    requires len_le_longest_line { line.len ≤ longest_line }
-    requires line_room_in_bounds { at + line_room ≤ length out.old }
-    ensures { ServesLine line buffer.now (entered blocks block_records file_records channel_records) out.old at (left blocks block_records file_records channel_records) out.new result }
+    line: &Pending,
+    out: &mut Output,
+)
+    requires room { array_vec_len out.old + line_room ≤ OUTPUT }
+    ensures { (bytes : List ℕ) → Pends bytes line.now → Serves (asked bytes) (entered blocks block_records file_records channel_records) out.old.items (left blocks block_records file_records channel_records) out.new.items }
 {
-    let command = ask(buffer, line);
-    serve(
-        blocks,
-        block_records,
-        file_records,
-        channel_records,
-        buffer,
-        command,
-        out,
-        at,
-    )
+    match ask(line) {
+        Some(command) => serve(
+            blocks,
+            block_records,
+            file_records,
+            channel_records,
+            command,
+            out,
+        ),
+        None => print_unknown(out),
+    }
 }

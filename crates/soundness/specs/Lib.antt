@@ -6,6 +6,7 @@ pub mod WellLaws
 pub mod WellFacts
 pub mod Seen
 pub mod RuleLoops
+pub mod Together
 pub mod Rules
 pub mod Slots
 pub mod RecordRules

@@ -9,6 +9,7 @@ use Rattle.records.specs.RowLaws.{every_cong}
 use Rattle.records.specs.ListLaws.{length-list_of}
 use Rattle.meaning.specs.Store.{Store, in_use, is_directory}
 use Rattle.meaning.specs.Tables.{Tables, tables, store_of, file_of, channel_of, byte_of, file_count, channel_count, owner, length_at, channel_file_at}
+use Rattle.meaning.specs.declared.Lent.{Lent}
 use Rattle.meaning.specs.Sound.{as_free, as_ordinary, as_directory, file_sound, files_sound, channel_sound, channels_sound, block_sound}
 use Rattle.soundness.specs.Use.{Used, used, directory_used}
 
@@ -21,6 +22,13 @@ channels_store files channels = store_of (tables [] [] files channels)
 
 abbrev pub record_tables : List ℕ → List ℕ → Tables
 record_tables records files = tables [] records files []
+
+-- of lent tables
+abbrev pub channels_of : Lent → Store
+channels_of store = channels_store store.file_records.now store.channel_records.now
+
+abbrev pub records_of : Lent → Tables
+records_of store = record_tables store.block_records.now store.file_records.now
 
 -- a file in use has a record, and a directory too: where a flag says that it is one
 module _ (files : List ℕ) (f : ℕ) (flag : Bool) where

@@ -8,6 +8,7 @@ use Rattle.meaning.specs.File.{needed, longest}
 use Rattle.meaning.specs.Name.{record_at, entry_at, entry_in, is_blank}
 use Rattle.meaning.specs.Store.{Store}
 use Rattle.meaning.specs.Tables.{tables, store_of, block_of, block_count, file_count, file_length}
+use Rattle.meaning.specs.declared.Lent.{Lent}
 use Rattle.names.specs.RecordNames.{record_from, record_at_lem}
 use Rattle.layout.specs.Layout.{length-file}
 use Rattle.directories.specs.Places.{record_place, record_there, blank_there}
@@ -15,6 +16,9 @@ use Rattle.directories.specs.Places.{record_place, record_there, blank_there}
 -- the store of all tables but channel records
 abbrev pub directories_store : List ℕ → List ℕ → List ℕ → Store
 directories_store blocks records files = store_of (tables blocks records files [])
+
+abbrev pub directories_of : Lent → Store
+directories_of store = directories_store store.blocks.now store.block_records.now store.file_records.now
 
 -- the first n places of file f have blocks
 pub record Findable (records : List ℕ) (f n : ℕ) : Type 0 where
@@ -37,6 +41,9 @@ pub record Placed (blocks records files : List ℕ) : Type 0 where
   pub few-files : file_count files ≤ 64
   pub short : (f : ℕ) → f ≤ file_count files → file_length files f ≤ longest
   pub there : (f i : ℕ) → i < needed (file_length files f) → block_of records f i < block_count records
+
+abbrev pub PlacedIn : Lent → Type 0
+PlacedIn store = Placed store.blocks.now store.block_records.now store.file_records.now
 
 pub dir-length : (blocks records files : List ℕ) (f : ℕ) → length ((directories_store blocks records files).file f).bytes ≡ file_length files f
 unfolding store_of

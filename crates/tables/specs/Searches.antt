@@ -1,18 +1,18 @@
 -- What the searches and counts over the records answer.
-use Rattle.std.specs.Prelude.{ℕ, ◌+◌, List, Bool, eqb, ltb}
+use Rattle.std.specs.Prelude.{ℕ, ◌+◌, List, Bool, Option, Some, None, eqb, ltb}
 use Rattle.records.specs.Rows.{pick, lowest, how_many, sum}
 use Rattle.meaning.specs.File.{needed}
+use Rattle.meaning.specs.declared.FileNo.{FileNo}
+use Rattle.meaning.specs.declared.ChannelNo.{ChannelNo}
 use Rattle.meaning.specs.Tables.{block_count, file_count, channel_count, kind_at, length_at, channel_file_at, holds, is_free}
-use Rattle.tables.specs.declared.FoundFile as file
-use Rattle.tables.specs.declared.FoundChannel as channel
 
 -- the file or the channel of a record that a search over `count` records ended at: one of them, or none.
 -- Channel c's record is number c, file r + 1's number r.
-unfoldable pub file_found : ℕ → ℕ → file.FoundFile
-file_found count r = pick (ltb r count) (file.TheVariants.At (record { 0 = r + 1 })) file.TheVariants.Nowhere
+unfoldable pub file_found : ℕ → ℕ → Option FileNo
+file_found count r = pick (ltb r count) (Some (record { 0 = r + 1 })) None
 
-unfoldable pub channel_found : ℕ → ℕ → channel.FoundChannel
-channel_found count c = pick (ltb c count) (channel.TheVariants.At (record { 0 = c })) channel.TheVariants.Nowhere
+unfoldable pub channel_found : ℕ → ℕ → Option ChannelNo
+channel_found count c = pick (ltb c count) (Some (record { 0 = c })) None
 
 -- how many blocks are place i of file f
 unfoldable pub blocks_with : List ℕ → ℕ → ℕ → ℕ

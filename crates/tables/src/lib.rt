@@ -1,30 +1,50 @@
 // Records of the lent tables as structs, and searches over them.
 #![tactic(auto)]
 
-ghost use Rattle.std.specs.Prelude.{◌≡◌, ◌+◌, ◌-◌, ◌*◌, ◌≤◌, ◌<◌, length, ltb};
+ghost use Rattle.std.specs.Prelude.{◌≡◌, ◌+◌, ◌-◌, ◌*◌, ◌≤◌, ◌<◌, length, eqb, ltb};
 ghost use Rattle.records.specs.Numbers.{zeros, with_record};
 ghost use Rattle.meaning.specs.File.{needed};
 ghost use Rattle.meaning.specs.Tables.{block_count, file_count, channel_count, block_record, file_record, channel_record, block_of};
+ghost use Rattle.meaning.specs.Types.{kind_number};
 ghost use Rattle.tables.specs.Read.{BlockRead, FileRead, ChannelRead};
 ghost use Rattle.tables.specs.Searches.{blocks_with, free_block_count, file_with, file_found, files_with, channel_with, channel_found, channels_with};
 
-use meaning::{BLOCK_SIZE, BlockNo, ChannelNo, FileNo};
+use meaning::{BLOCK_SIZE, BlockNo, ChannelNo, FileNo, Kind};
+use records::rows::{how_many, lowest};
 use records::{four_at, one_at, put_four, put_one, put_two, two_at, zeros_at};
 
-#[derive(Clone, Copy)]
+// The records as their bytes have them, sound or not: a file number may be 0, and a kind any byte.
+#[derive(Clone, Copy, Debug, PartialEq, Eq)]
 pub struct BlockRecord {
     pub owner: FileNo,
     pub place: u16,
 }
 
-#[derive(Clone, Copy)]
+impl BlockRecord {
+    // The record of a block of no file.
+    pub const FREE: BlockRecord = BlockRecord {
+        owner: FileNo::NONE,
+        place: 0,
+    };
+}
+
+#[derive(Clone, Copy, Debug, PartialEq, Eq)]
 pub struct FileRecord {
     pub kind: u8,
     pub depth: u8,
     pub length: u32,
 }
 
-#[derive(Clone, Copy)]
+impl FileRecord {
+    // Whether the record is used for this.
+    pub fn is(self, kind: Kind) -> bool
+        ensures { result ≡ eqb self.kind (kind_number kind) }
+    {
+        self.kind == u8::from(kind)
+    }
+}
+
+#[derive(Clone, Copy, Debug, PartialEq, Eq)]
 pub struct ChannelRecord {
     pub file: FileNo,
     pub position: u32,
@@ -69,35 +89,18 @@ pub fn channel_record(records: &[u8], c: ChannelNo) -> ChannelRecord
 }
 
 // Whether the two zeros of record r stand, in a table of records of 8 bytes.
-fn zeros_of(records: &[u8], r: usize) -> bool
+pub fn zeros_of(records: &[u8], r: usize) -> bool
     requires { r < file_count records.now }
     ensures { result ≡ zeros records.now (8 * r + 2) 2 }
 {
     zeros_at(records, 8 * r + 2, 2)
 }
 
-// Whether the two zeros of file f's record stand.
-pub fn file_zeros(records: &[u8], f: FileNo) -> bool
-    requires { (0 < f.0) × (f.0 ≤ file_count records.now) }
-    ensures { result ≡ zeros records.now (8 * (f.0 - 1) + 2) 2 }
-{
-    zeros_of(records, f.0 as usize - 1)
-}
-
-// Whether the two zeros of channel c's record stand.
-pub fn channel_zeros(records: &[u8], c: ChannelNo) -> bool
-    requires { c.0 < channel_count records.now }
-    ensures { result ≡ zeros records.now (8 * c.0 + 2) 2 }
-{
-    zeros_of(records, c.0 as usize)
-}
-
 // How many places a file of n bytes has.
 pub fn places(n: usize) -> usize
-    requires { n ≤ 4294967295 }
     ensures { result ≡ needed n }
 {
-    (n + (BLOCK_SIZE - 1)) / BLOCK_SIZE
+    n.div_ceil(BLOCK_SIZE)
 }
 
 // Block b's record written.
@@ -133,20 +136,6 @@ pub fn put_channel_record(records: &mut [u8], c: ChannelNo, record: ChannelRecor
     put_four(records, at + 4, record.position);
 }
 
-// What a search for a file finds.
-#[derive(Clone, Copy)]
-pub enum FoundFile {
-    At(FileNo),
-    Nowhere,
-}
-
-// What a search for a channel finds.
-#[derive(Clone, Copy)]
-pub enum FoundChannel {
-    At(ChannelNo),
-    Nowhere,
-}
-
 // The record of a block that is place i of file f, as one number.
 fn place_number(f: FileNo, i: u16) -> u32
     ensures { result ≡ f.0 + 65536 * i }
@@ -154,12 +143,13 @@ fn place_number(f: FileNo, i: u16) -> u32
     f.0 as u32 + 65536 * (i as u32)
 }
 
-// The block of a place that has one. Owner and place are compared as one number; what is looked for is there, so the search tests no end.
+// The block of a place that has one. Owner and place are compared as one number.
 pub fn held_block(records: &[u8], f: FileNo, i: u16) -> BlockNo
     requires { (block_count records.now ≤ 65536) × (block_of records.now f.0 i < block_count records.now) }
     ensures { result.0 ≡ block_of records.now f.0 i }
 {
     let wanted = place_number(f, i);
+    // What is looked for is there, so the loop tests no end. `lowest(..).unwrap()`, which tests it, was tried and is a sixth slower.
     let mut b = 0;
     while four_at(records, 4 * b) != wanted {
         b += 1;
@@ -187,87 +177,48 @@ pub fn count_blocks(records: &[u8], f: FileNo, i: u16) -> usize
     ensures { result ≡ blocks_with records.now f.0 i }
 {
     let wanted = place_number(f, i);
-    let count = records.len() / 4;
-    let mut found: usize = 0;
-    let mut b = 0;
-    while b < count {
-        if four_at(records, 4 * b) == wanted {
-            found += 1;
-        }
-        b += 1;
-    }
-    found
+    how_many(records.len() / 4, |b| four_at(records, 4 * b) == wanted)
 }
 
 // How many blocks are free.
 pub fn count_free_blocks(records: &[u8]) -> usize
     ensures { result ≡ free_block_count records.now }
 {
-    count_blocks(records, FileNo(0), 0)
+    count_blocks(records, FileNo::NONE, 0)
 }
 
-// The lowest file of a kind, if there is one. Kind 0: the lowest free one. Record r is file r + 1's.
-pub fn find_file(records: &[u8], kind: u8) -> FoundFile
+// The lowest file of a kind, if there is one. Record r is file r + 1's.
+pub fn find_file(records: &[u8], kind: Kind) -> Option<FileNo>
     requires { file_count records.now < 65536 }
-    ensures { result ≡ file_found (file_count records.now) (file_with records.now kind) }
+    ensures { result ≡ file_found (file_count records.now) (file_with records.now (kind_number kind)) }
 {
-    let count = records.len() / 8;
-    let mut r = 0;
-    while r < count {
-        if one_at(records, 8 * r) == kind {
-            return FoundFile::At(FileNo(r as u16 + 1));
-        }
-        r += 1;
-    }
-    FoundFile::Nowhere
+    let wanted = u8::from(kind);
+    let r = lowest(records.len() / 8, |r| one_at(records, 8 * r) == wanted)?;
+    Some(FileNo(r as u16 + 1))
 }
 
-// How many file records have a kind. Kind 0: how many are free.
-pub fn count_files(records: &[u8], kind: u8) -> usize
-    ensures { result ≡ files_with records.now kind }
+// How many file records have a kind.
+pub fn count_files(records: &[u8], kind: Kind) -> usize
+    ensures { result ≡ files_with records.now (kind_number kind) }
 {
-    let count = records.len() / 8;
-    let mut found: usize = 0;
-    let mut i = 0;
-    while i < count {
-        if one_at(records, 8 * i) == kind {
-            found += 1;
-        }
-        i += 1;
-    }
-    found
+    let wanted = u8::from(kind);
+    how_many(records.len() / 8, |r| one_at(records, 8 * r) == wanted)
 }
 
-// The lowest channel that holds file f, if there is one. File 0: the lowest free one.
-pub fn find_channel(records: &[u8], f: FileNo) -> FoundChannel
+// The lowest channel that holds file f, if there is one. Of FileNo::NONE: the lowest free one.
+pub fn find_channel(records: &[u8], f: FileNo) -> Option<ChannelNo>
     requires { channel_count records.now ≤ 4294967296 }
     ensures { result ≡ channel_found (channel_count records.now) (channel_with records.now f.0) }
 {
-    let count = records.len() / 8;
-    let mut c = 0;
-    while c < count {
-        if two_at(records, 8 * c) == f.0 {
-            return FoundChannel::At(ChannelNo(c as u32));
-        }
-        c += 1;
-    }
-    FoundChannel::Nowhere
+    let c = lowest(records.len() / 8, |c| two_at(records, 8 * c) == f.0)?;
+    Some(ChannelNo(c as u32))
 }
 
-// How many channels hold file f. File 0: how many are free.
+// How many channels hold file f. Of FileNo::NONE: how many are free.
 pub fn count_channels(records: &[u8], f: FileNo) -> usize
     ensures { result ≡ channels_with records.now f.0 }
 {
-    let count = records.len() / 8;
-    let mut found: usize = 0;
-    let mut c = 0;
-    while c < count {
-        if two_at(records, 8 * c) == f.0 {
-            found += 1;
-        }
-        c += 1;
-    }
-    found
+    how_many(records.len() / 8, |c| two_at(records, 8 * c) == f.0)
 }
 
 // Whether a channel holds file f.

@@ -1,4 +1,5 @@
-pub mod ArgumentLaws
+pub mod CutLaws
 pub mod ReadLaws
+pub mod WordLaws
 pub mod DigitLaws
 pub mod PrintLaws

@@ -1,21 +1,70 @@
--- What a state says of the line so far, by its two cases.
-use Rattle.std.specs.Prelude.{ℕ, ◌≤◌, ◌<◌, ◌≡◌, List, true, false, length, take}
-use Rattle.std.proofs.Common.{subst, sym, arith, length-take-le}
-use Rattle.text.specs.Line.{longest_line}
-use Rattle.text.specs.Gathering.{Kept, Pends}
-use Rattle.text.specs.declared.lines.Pending.{Pending}
+-- A piece of the input by its first line: the line ends in the piece, and the rest stands behind the newline; or it goes on.
+use Rattle.std.specs.Prelude.{ℕ, ◌+◌, ◌≤◌, ◌<◌, ◌≡◌, refl, List, [], ◌∷◌, ◌++◌, Bool, true, false, None, Some, length, take, drop, ltb}
+use Rattle.std.proofs.Common.{ap, ◌∙◌, arith, take_all, length-drop, ltb-true, ltb-false, take-append-drop}
+use Rattle.records.specs.Rows.{pick}
+use Rattle.text.specs.Print.{newline}
+use Rattle.text.specs.Program.{completed, remaining}
+use Rattle.text.specs.Commands.{first_of, behind}
+use Rattle.text.specs.Gathering.{first_line}
+use Rattle.text.specs.Cuts.{completed_both, remaining_both, line_ends, line_ended, line_goes_on, line_grows}
 
-module _ (line : List ℕ) (p : Pending) (buffer : List ℕ) (pends : Pends line p buffer) where
-  pub too_long : p.long ≡ true → longest_line < length line
-  too_long e = subst (λ t. Kept t p.len buffer line) e pends.keeps
+module _ (piece : List ℕ) where
+  ends_at : ℕ
+  ends_at = first_of newline piece
 
-  pub in_buffer : p.long ≡ false → line ≡ take p.len buffer
-  in_buffer e = subst (λ t. Kept t p.len buffer line) e pends.keeps
+  module _ (rest : List ℕ) (e : behind newline piece ≡ Some rest) where
+    found : (ends_at < length piece) × (rest ≡ drop (ends_at + 1) piece)
+    unfolding behind ends_at
+    found = go (ltb (first_of newline piece) (length piece)) refl e
+      where
+        go : (t : Bool) → ltb (first_of newline piece) (length piece) ≡ t → pick t (Some (drop (first_of newline piece + 1) piece)) None ≡ Some rest
+            → (first_of newline piece < length piece) × (rest ≡ drop (first_of newline piece + 1) piece)
+        go true t g = (ltb-true (first_of newline piece) (length piece) t, cc)
+        go false t g = absurd (cc)
 
-  -- its length is the state's
-  pub pending_length : p.long ≡ false → longest_line ≤ length buffer → length line ≡ p.len
-  pending_length e h = rw (in_buffer e) (length-take-le p.len buffer (omega (arith, pends.fits)))
+    -- the piece up to its newline, and the rest
+    two_parts : piece ≡ take (ends_at + 1) piece ++ rest
+    two_parts = rw (found.1, take-append-drop (ends_at + 1) piece)
 
--- a line of a state that says too long
-pub still_long : (line : List ℕ) (p : Pending) (buffer : List ℕ) → p.len ≤ longest_line → p.long ≡ true → longest_line < length line → Pends line p buffer
-still_long line p buffer f e h = record { fits = f; keeps = subst (λ t. Kept t p.len buffer line) (sym e) h }
+    pub ends_within : first_of newline piece < length piece
+    unfolding ends_at
+    ends_within = found.0
+
+    pub rest_behind : piece ≡ take (first_of newline piece + 1) piece ++ rest
+    unfolding ends_at
+    rest_behind = two_parts
+
+    pub rest-shorter : length rest < length piece
+    rest-shorter = let g = found in rw (g.1, length-drop) (omega arith)
+
+    -- the line ends, and what follows it is the rest's
+    pub completes : (line : List ℕ) → completed line piece ≡ (line ++ first_line piece) ∷ completed [] rest
+    unfolding ends_at
+    completes line =
+        ap (completed line) two_parts ∙ completed_both line (take (ends_at + 1) piece) rest
+        ∙ rw (line_ends piece line found.0, line_ended piece line found.0)
+
+    pub leaves : (line : List ℕ) → remaining line piece ≡ remaining [] rest
+    unfolding ends_at
+    leaves line = ap (remaining line) two_parts ∙ remaining_both line (take (ends_at + 1) piece) rest ∙ rw (line_ended piece line found.0)
+
+  module _ (e : behind newline piece ≡ None) where
+    nowhere : length piece ≤ first_of newline piece
+    unfolding behind
+    nowhere = go (ltb (first_of newline piece) (length piece)) refl e
+      where
+        go : (t : Bool) → ltb (first_of newline piece) (length piece) ≡ t → pick t (Some (drop (first_of newline piece + 1) piece)) None ≡ None
+            → length piece ≤ first_of newline piece
+        go true t g = absurd (cc)
+        go false t g = ltb-false (first_of newline piece) (length piece) t
+
+    -- no line ends, and the line so far grows by the piece
+    pub all_first : first_line piece ≡ piece
+    unfolding first_line
+    all_first = take_all (first_of newline piece) piece nowhere
+
+    pub completes_none : (line : List ℕ) → completed line piece ≡ []
+    completes_none line = line_goes_on piece line nowhere
+
+    pub grows : (line : List ℕ) → remaining line piece ≡ line ++ piece
+    grows line = line_grows piece line nowhere

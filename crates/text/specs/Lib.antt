@@ -4,11 +4,8 @@ pub mod PrintedLaws
 pub mod Program
 pub mod Examples
 pub mod Commands
-pub mod CommandLaws
 pub mod Words
 pub mod Arguments
-pub mod Lays
-pub mod LaysLaws
 pub mod Gathering
-pub mod GatheringLaws
 pub mod Cuts
+pub mod GatheringLaws

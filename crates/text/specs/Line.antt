@@ -1,6 +1,5 @@
 -- A line of text, and the call that it asks for (01, "Figures to meet"). A line is measured without its newline.
-use Rattle.std.specs.Prelude.{ℕ, ◌+◌, ◌-◌, ◌*◌, List, [], ◌∷◌, Bool, ◌&&◌, length, take, drop, leb, ltb, eqb}
-use Rattle.std.proofs.Math.Option.{Option, none, some}
+use Rattle.std.specs.Prelude.{ℕ, ◌+◌, ◌-◌, ◌*◌, List, [], ◌∷◌, Bool, ◌&&◌, Option, None, Some, length, take, drop, leb, ltb, eqb}
 use Rattle.records.specs.Rows.{pick, lowest, every}
 use Rattle.records.specs.Numbers.{one}
 use Rattle.meaning.specs.Name.{same}
@@ -29,24 +28,24 @@ first_word bytes = take (word_end bytes) bytes
 
 -- what follows the space behind it; none where no space does
 unfoldable pub after_word : List ℕ → Option (List ℕ)
-after_word bytes = pick (ltb (word_end bytes) (length bytes)) (some (drop (word_end bytes + 1) bytes)) none
+after_word bytes = pick (ltb (word_end bytes) (length bytes)) (Some (drop (word_end bytes + 1) bytes)) None
 
 -- ---- arguments, each form with what it asks for; none: the line has another form
 
 module _ {A : Type 0} where
   unfoldable pub given : {B : Type 0} → Option A → (A → Option B) → Option B
-  given none k = none
-  given (some a) k = k a
+  given None k = None
+  given (Some a) k = k a
 
 -- no argument
 unfoldable pub nothing : Call → Option (List ℕ) → Option Call
-nothing call none = some call
-nothing call (some rest) = none
+nothing call None = Some call
+nothing call (Some rest) = None
 
 -- a word that is not empty, and what follows it
 unfoldable pub a_word : (List ℕ → Option (List ℕ) → Option Call) → Option (List ℕ) → Option Call
-a_word k none = none
-a_word k (some rest) = pick (ltb 0 (length (first_word rest))) (k (first_word rest) (after_word rest)) none
+a_word k None = None
+a_word k (Some rest) = pick (ltb 0 (length (first_word rest))) (k (first_word rest) (after_word rest)) None
 
 -- numbers are one or more digits, judged by value: up to 4,294,967,295
 unfoldable pub is_digit : ℕ → Bool
@@ -59,7 +58,7 @@ value_from n (d ∷ digits) = value_from (10 * n + (d - 48)) digits
 unfoldable pub number : List ℕ → Option ℕ
 number word =
     pick (ltb 0 (length word) && every (length word) (λ i. is_digit (one word i)) && leb (value_from 0 word) 4294967295)
-    (some (value_from 0 word)) none
+    (Some (value_from 0 word)) None
 
 -- a number, and what follows it
 unfoldable pub a_number : (ℕ → Option (List ℕ) → Option Call) → Option (List ℕ) → Option Call
@@ -67,9 +66,9 @@ a_number k = a_word λ word rest. given (number word) (λ n. k n rest)
 
 -- write's data is the rest of the line and may be missing; after its space every byte is data
 unfoldable pub the_data : (List ℕ → Call) → Option (List ℕ) → Option Call
-the_data call none = some (call [])
-the_data call (some []) = none
-the_data call (some (b ∷ bytes)) = some (call (b ∷ bytes))
+the_data call None = Some (call [])
+the_data call (Some []) = None
+the_data call (Some (b ∷ bytes)) = Some (call (b ∷ bytes))
 
 -- ---- the calls' words
 
@@ -84,7 +83,7 @@ last_number call = a_number λ n. nothing (call n)
 
 -- a read above 2,048 has another form
 unfoldable pub reading : ℕ → ℕ → Option (List ℕ) → Option Call
-reading c count rest = pick (leb count lent_bytes) (nothing (Read c count) rest) none
+reading c count rest = pick (leb count lent_bytes) (nothing (Read c count) rest) None
 
 -- a word, and the form of what follows it
 pub record Form : Type 0 where
@@ -112,9 +111,9 @@ forms =
 
 -- the form of the word that a line begins with
 unfoldable pub formed : List Form → List ℕ → Option (List ℕ) → Option Call
-formed [] word rest = none
+formed [] word rest = None
 formed (form ∷ others) word rest = let later = formed others word rest in pick (same form.word word) (form.call rest) later
 
 -- the call that a line asks for; none: the program prints ? and calls nothing
 unfoldable pub asked : List ℕ → Option Call
-asked line = pick (leb (length line) longest_line) (formed forms (first_word line) (after_word line)) none
+asked line = pick (leb (length line) longest_line) (formed forms (first_word line) (after_word line)) None

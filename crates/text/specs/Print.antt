@@ -1,7 +1,6 @@
 -- What the program prints (01, "Figures to meet"): the report, then the answer's numbers, then bytes in hex;
 -- a refusal prints its report alone.
-use Rattle.std.specs.Prelude.{ℕ, zero, suc, ◌+◌, ◌/◌, ◌%◌, List, [], ◌∷◌, ◌++◌, ltb, eqb}
-use Rattle.std.proofs.Math.Option.{Option, none, some}
+use Rattle.std.specs.Prelude.{ℕ, zero, suc, ◌+◌, ◌/◌, ◌%◌, List, [], ◌∷◌, ◌++◌, Option, None, Some, ltb, eqb}
 use Rattle.records.specs.Rows.{pick}
 use Rattle.meaning.specs.Tables.{Tables}
 use Rattle.meaning.specs.Run.{Call, Answer, width, answer_of, bytes_of, changes_of, result_of}
@@ -55,8 +54,8 @@ pub record Served : Type 0 where
   pub tables : Tables
 
 unfoldable pub served_as : Option Call → Tables → Served
-served_as none t = record { prints = question; tables = t }
-served_as (some call) t =
+served_as None t = record { prints = question; tables = t }
+served_as (Some call) t =
     let r = result_of call t in
     record { prints = printed (answer_of (width call) r) (bytes_of r); tables = put_all t (changes_of r) }
 

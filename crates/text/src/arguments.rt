@@ -1,230 +1,132 @@
-// What follows the word that a line begins with: names, numbers, data. A place past the line's end means that nothing follows.
-ghost use Rattle.std.specs.Prelude.{◌≡◌, length, ltb};
-ghost use Rattle.records.specs.Rows.{pick};
-ghost use Rattle.text.specs.Line.{a_name, two_names, last_number, number};
-ghost use Rattle.text.specs.Commands.{rest_at, Reads};
-ghost use Rattle.text.specs.Words.{name_call, pair_call, number_call, name_command, pair_command, number_command, to_read, to_write, to_seek};
-ghost use Rattle.text.specs.Arguments.{Argued, numbered, Counts};
+// What follows on a line, taken from the left: words, numbers, data. None: no space follows, and so nothing more.
+ghost use Rattle.std.specs.Prelude.{◌≡◌, ℕ, List, Option, Some, option_map};
+ghost use Rattle.std.specs.Option.{option_copied};
+ghost use Rattle.meaning.specs.Run.{Call};
+ghost use Rattle.text.specs.Line.{number, first_word, after_word, nothing, a_word, a_number, a_name, two_names, last_number, the_data};
+ghost use Rattle.text.specs.Arguments.{taken, counted};
+ghost use Rattle.text.specs.Words.{to_read, to_write, to_seek};
 
-use crate::search::find;
-use crate::words::{NameWord, NumberWord, PairWord};
-use crate::{Command, Span};
+use crate::search::cut;
 
-// A word of the line, if there is one that is not empty.
-#[derive(Clone, Copy)]
-pub enum Argument {
-    Of(Span),
-    Missing,
-}
+// read may ask for so many bytes.
+const LARGEST_READ: u32 = 2048;
 
-pub fn argument_at(line: &[u8], at: usize) -> Argument
-    ensures { Argued line.now at result }
+// The word that a row of bytes begins with, and what follows the space behind it.
+pub fn first_word(bytes: &[u8]) -> (&[u8], Option<&[u8]>)
+    ensures word { result.0.now ≡ first_word bytes.now }
+    ensures rest { option_copied result.1 ≡ after_word bytes.now }
 {
-    if line.len() <= at {
-        return Argument::Missing;
-    }
-    let to = at + find(&line[at..], b' ');
-    if to <= at {
-        return Argument::Missing;
-    }
-    Argument::Of(Span { from: at, to })
+    cut(bytes, b' ')
 }
 
-// The number that a word is, if it is one.
-#[derive(Clone, Copy)]
-pub enum Number {
-    Of(u32),
-    Bad,
-}
-
-pub fn number_of(word: &[u8]) -> Number
-    ensures { numbered result ≡ number word.now }
+// Whether nothing follows.
+pub fn ended(rest: Option<&[u8]>) -> Option<()>
+    ensures { (call : Call) → option_map (λ _. call) result ≡ nothing call (option_copied rest.entry) }
 {
-    if word.len() == 0 {
-        return Number::Bad;
+    match rest {
+        None => Some(()),
+        Some(_) => None,
+    }
+}
+
+// A word that is not empty, and what follows it.
+fn a_word<'a>(rest: Option<&'a [u8]>) -> Option<(&'a [u8], Option<&'a [u8]>)>
+    ensures { (k : List ℕ → Option (List ℕ) → Option Call) → taken result k ≡ a_word k (option_copied rest.entry) }
+{
+    let (word, behind) = first_word(rest?);
+    (!word.is_empty()).then_some((word, behind))
+}
+
+// The number that a word is, if it is one. By hand: std's parse takes a sign too.
+fn number_of(word: &[u8]) -> Option<u32>
+    ensures { result ≡ number word.now }
+{
+    if word.is_empty() {
+        return None;
     }
     let mut value: u64 = 0;
-    let mut i = 0;
-    while i < word.len() {
-        let b = word[i];
-        if b < b'0' {
-            return Number::Bad;
+    for b in word {
+        if !b.is_ascii_digit() {
+            return None;
         }
-        if b'9' < b {
-            return Number::Bad;
-        }
-        value = 10 * value + (b - b'0') as u64;
-        if 4294967295 < value {
-            return Number::Bad;
-        }
-        i += 1;
-    }
-    Number::Of(value as u32)
-}
-
-// A number, and the place where the next argument starts.
-#[derive(Clone, Copy)]
-pub enum Numeral {
-    Of(u32, usize),
-    Bad,
-}
-
-pub fn number_at(line: &[u8], at: usize) -> Numeral
-    ensures { Counts line.now at result }
-{
-    let word = argument_at(line, at);
-    match word {
-        Argument::Missing => Numeral::Bad,
-        Argument::Of(s) => {
-            let from = s.from;
-            let to = s.to;
-            let value = number_of(&line[from..to]);
-            match value {
-                Number::Bad => Numeral::Bad,
-                Number::Of(n) => Numeral::Of(n, to + 1),
-            }
+        value = 10 * value + (*b - b'0') as u64;
+        if value > u32::MAX as u64 {
+            return None;
         }
     }
+    Some(value as u32)
 }
 
-// The command, where nothing more follows.
-pub fn ended(line: &[u8], at: usize, command: Command) -> Command
-    ensures { result ≡ pick (ltb (length line.now) at) command Command.Unknown }
+// A number, and what follows it.
+fn a_number<'a>(rest: Option<&'a [u8]>) -> Option<(u32, Option<&'a [u8]>)>
+    ensures { (k : ℕ → Option (List ℕ) → Option Call) → counted result k ≡ a_number k (option_copied rest.entry) }
 {
-    if line.len() < at {
-        command
-    } else {
-        Command::Unknown
+    let (word, behind) = a_word(rest)?;
+    Some((number_of(word)?, behind))
+}
+
+// One name, and nothing behind it.
+pub fn name<'a>(rest: Option<&'a [u8]>) -> Option<&'a [u8]>
+    ensures { (call : List ℕ → Call) → option_map (λ name. call name.now) result ≡ a_name call (option_copied rest.entry) }
+{
+    let (name, rest) = a_word(rest)?;
+    ended(rest)?;
+    Some(name)
+}
+
+// Two names.
+pub fn names<'a>(rest: Option<&'a [u8]>) -> Option<(&'a [u8], &'a [u8])>
+    ensures { (call : List ℕ → List ℕ → Call) → option_map (λ names. call names.0.now names.1.now) result ≡ two_names call (option_copied rest.entry) }
+{
+    let (old, rest) = a_word(rest)?;
+    Some((old, name(rest)?))
+}
+
+// One number.
+pub fn number(rest: Option<&[u8]>) -> Option<u32>
+    ensures { (call : ℕ → Call) → option_map call result ≡ last_number call (option_copied rest.entry) }
+{
+    let (n, rest) = a_number(rest)?;
+    ended(rest)?;
+    Some(n)
+}
+
+// read: a channel and a count.
+pub fn to_read(rest: Option<&[u8]>) -> Option<(u32, u32)>
+    ensures { option_map (λ r. Call.Read r.0 r.1) result ≡ to_read (option_copied rest.entry) }
+{
+    let (c, rest) = a_number(rest)?;
+    let (count, rest) = a_number(rest)?;
+    if LARGEST_READ < count {
+        return None;
     }
+    ended(rest)?;
+    Some((c, count))
 }
 
-// The command of a word and its name.
-fn name_command(word: NameWord, name: Span) -> Command
-    ensures { result ≡ name_command word name }
+// The rest of the line as data. It may be missing, and then the space before it too.
+fn the_data<'a>(rest: Option<&'a [u8]>) -> Option<&'a [u8]>
+    ensures { (call : List ℕ → Call) → option_map (λ bytes. call bytes.now) result ≡ the_data call (option_copied rest.entry) }
 {
-    match word {
-        NameWord::Create => Command::Create(name),
-        NameWord::Open => Command::Open(name),
-        NameWord::Unlink => Command::Unlink(name),
-        NameWord::Mkdir => Command::Mkdir(name),
-        NameWord::Rmdir => Command::Rmdir(name),
-        NameWord::Ls => Command::Ls(name),
-    }
-}
-
-// A word with one name, and nothing behind it.
-pub fn one_name(line: &[u8], at: usize, word: NameWord) -> Command
-    ensures { Reads line.now result (a_name (name_call word) (rest_at line.now at)) }
-{
-    let name = argument_at(line, at);
-    match name {
-        Argument::Missing => Command::Unknown,
-        Argument::Of(s) => {
-            let to = s.to;
-            ended(line, to + 1, name_command(word, s))
-        }
-    }
-}
-
-// The command of a word and its two names.
-fn pair_command(word: PairWord, old: Span, new: Span) -> Command
-    ensures { result ≡ pair_command word old new }
-{
-    match word {
-        PairWord::Link => Command::Link(old, new),
-        PairWord::Move => Command::Move(old, new),
-    }
-}
-
-// A word with two names.
-pub fn two_names(line: &[u8], at: usize, word: PairWord) -> Command
-    ensures { Reads line.now result (two_names (pair_call word) (rest_at line.now at)) }
-{
-    let first = argument_at(line, at);
-    let Argument::Of(old) = first else {
-        return Command::Unknown;
+    let Some(bytes) = rest else {
+        return Some(&[]);
     };
-    let to = old.to;
-    let second = argument_at(line, to + 1);
-    let Argument::Of(new) = second else {
-        return Command::Unknown;
-    };
-    let end = new.to;
-    ended(line, end + 1, pair_command(word, old, new))
+    (!bytes.is_empty()).then_some(bytes)
 }
 
-// The command of a word and its number.
-fn number_command(word: NumberWord, n: u32) -> Command
-    ensures { result ≡ number_command word n }
+// write: a channel and data.
+pub fn to_write<'a>(rest: Option<&'a [u8]>) -> Option<(u32, &'a [u8])>
+    ensures { option_map (λ w. Call.Write w.0 w.1.now) result ≡ to_write (option_copied rest.entry) }
 {
-    match word {
-        NumberWord::Close => Command::Close(n),
-        NumberWord::Fstat => Command::Fstat(n),
-    }
-}
-
-// A word with one number.
-pub fn one_number(line: &[u8], at: usize, word: NumberWord) -> Command
-    ensures { Reads line.now result (last_number (number_call word) (rest_at line.now at)) }
-{
-    let channel = number_at(line, at);
-    match channel {
-        Numeral::Bad => Command::Unknown,
-        Numeral::Of(c, next) => ended(line, next, number_command(word, c)),
-    }
-}
-
-// read: a channel and a count, of which 2,048 is the most.
-pub fn to_read(line: &[u8], at: usize) -> Command
-    ensures { Reads line.now result (to_read (rest_at line.now at)) }
-{
-    let channel = number_at(line, at);
-    let Numeral::Of(c, next) = channel else {
-        return Command::Unknown;
-    };
-    let asked = number_at(line, next);
-    let Numeral::Of(count, end) = asked else {
-        return Command::Unknown;
-    };
-    if 2048 < count {
-        return Command::Unknown;
-    }
-    ended(line, end, Command::Read(c, count))
-}
-
-// write: a channel, and the rest of the line as data. The data may be missing, and then the space before it too.
-pub fn to_write(line: &[u8], at: usize) -> Command
-    ensures { Reads line.now result (to_write (rest_at line.now at)) }
-{
-    let channel = number_at(line, at);
-    let Numeral::Of(c, from) = channel else {
-        return Command::Unknown;
-    };
-    let to = line.len();
-    if to < from {
-        return Command::Write(c, Span { from: to, to });
-    }
-    if to == from {
-        return Command::Unknown;
-    }
-    Command::Write(c, Span { from, to })
+    let (c, rest) = a_number(rest)?;
+    Some((c, the_data(rest)?))
 }
 
 // seek: a channel, a mode and a number.
-pub fn to_seek(line: &[u8], at: usize) -> Command
-    ensures { Reads line.now result (to_seek (rest_at line.now at)) }
+pub fn to_seek(rest: Option<&[u8]>) -> Option<(u32, u32, u32)>
+    ensures { option_map (λ s. Call.Seek s.0 s.1 s.2) result ≡ to_seek (option_copied rest.entry) }
 {
-    let channel = number_at(line, at);
-    let Numeral::Of(c, second) = channel else {
-        return Command::Unknown;
-    };
-    let how = number_at(line, second);
-    let Numeral::Of(mode, third) = how else {
-        return Command::Unknown;
-    };
-    let by = number_at(line, third);
-    let Numeral::Of(n, end) = by else {
-        return Command::Unknown;
-    };
-    ended(line, end, Command::Seek(c, mode, n))
+    let (c, rest) = a_number(rest)?;
+    let (mode, rest) = a_number(rest)?;
+    Some((c, mode, number(rest)?))
 }

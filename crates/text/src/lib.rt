@@ -7,59 +7,87 @@ pub mod print;
 mod search;
 mod words;
 
+ghost use Rattle.std.specs.Prelude.{◌≡◌};
+ghost use Rattle.std.specs.Option.{option_copied};
 ghost use Rattle.text.specs.Line.{asked};
-ghost use Rattle.text.specs.Commands.{Reads};
+ghost use Rattle.text.specs.Commands.{commanded};
+ghost use Rattle.text.specs.Words.{form_of};
 
-use search::find;
-use words::Word;
+use arguments::{ended, first_word, name, names, number, to_read, to_seek, to_write};
+use lines::LONGEST_LINE;
+use words::{Word, word_of};
 
-// A part of the line: the bytes from one place up to, not including, another.
+// What a line asks for: a call, whose names and data are parts of the line.
 #[derive(Clone, Copy)]
-pub struct Span {
-    pub from: usize,
-    pub to: usize,
-}
-
-// What a line asks for: a call, whose names and data are parts of the line, or nothing known.
-#[derive(Clone, Copy)]
-pub enum Command {
-    Unknown,
+pub enum Command<'a> {
     Prepare,
     Room,
-    Create(Span),
-    Open(Span),
-    Unlink(Span),
-    Mkdir(Span),
-    Rmdir(Span),
-    Link(Span, Span),
-    Move(Span, Span),
-    Ls(Span),
+    Create(&'a [u8]),
+    Open(&'a [u8]),
+    Unlink(&'a [u8]),
+    Mkdir(&'a [u8]),
+    Rmdir(&'a [u8]),
+    Link(&'a [u8], &'a [u8]),
+    Move(&'a [u8], &'a [u8]),
+    Ls(&'a [u8]),
     Close(u32),
     Fstat(u32),
     Read(u32, u32),
-    Write(u32, Span),
+    Write(u32, &'a [u8]),
     Seek(u32, u32, u32),
 }
 
-// What a line asks for. A line that is too long asks for nothing.
-pub fn parse(line: &[u8]) -> Command
-    ensures { Reads line.now result (asked line.now) }
+// What a line asks for, if that is a call. A line that is too long asks for nothing.
+pub fn parse<'a>(line: &'a [u8]) -> Option<Command<'a>>
+    ensures { commanded result ≡ asked line.now }
 {
-    if 1024 < line.len() {
-        return Command::Unknown;
+    if LONGEST_LINE < line.len() {
+        return None;
     }
-    let to = find(line, b' ');
-    let word = words::word_of(&line[..to]);
-    let at = to + 1;
+    let (word, rest) = first_word(line);
+    asked_by(word_of(word)?, rest)
+}
+
+// What a word and what follows it ask for.
+fn asked_by<'a>(word: Word, rest: Option<&'a [u8]>) -> Option<Command<'a>>
+    ensures { commanded result ≡ form_of (Some word) (option_copied rest.entry) }
+{
     match word {
-        Word::Unknown => Command::Unknown,
-        Word::Prepare => arguments::ended(line, at, Command::Prepare),
-        Word::Room => arguments::ended(line, at, Command::Room),
-        Word::Name(word) => arguments::one_name(line, at, word),
-        Word::Names(word) => arguments::two_names(line, at, word),
-        Word::Number(word) => arguments::one_number(line, at, word),
-        Word::Read => arguments::to_read(line, at),
-        Word::Write => arguments::to_write(line, at),
-        Word::Seek => arguments::to_seek(line, at),
+        Word::Prepare => {
+            ended(rest)?;
+            Some(Command::Prepare)
+        }
+        Word::Create => Some(Command::Create(name(rest)?)),
+        Word::Open => Some(Command::Open(name(rest)?)),
+        Word::Close => Some(Command::Close(number(rest)?)),
+        Word::Read => {
+            let (c, count) = to_read(rest)?;
+            Some(Command::Read(c, count))
+        }
+        Word::Write => {
+            let (c, bytes) = to_write(rest)?;
+            Some(Command::Write(c, bytes))
+        }
+        Word::Seek => {
+            let (c, mode, n) = to_seek(rest)?;
+            Some(Command::Seek(c, mode, n))
+        }
+        Word::Fstat => Some(Command::Fstat(number(rest)?)),
+        Word::Link => {
+            let (old, new) = names(rest)?;
+            Some(Command::Link(old, new))
+        }
+        Word::Unlink => Some(Command::Unlink(name(rest)?)),
+        Word::Move => {
+            let (old, new) = names(rest)?;
+            Some(Command::Move(old, new))
+        }
+        Word::Ls => Some(Command::Ls(name(rest)?)),
+        Word::Mkdir => Some(Command::Mkdir(name(rest)?)),
+        Word::Rmdir => Some(Command::Rmdir(name(rest)?)),
+        Word::Room => {
+            ended(rest)?;
+            Some(Command::Room)
+        }
     }
 }

@@ -1,106 +1,82 @@
-// Lines put together from input that comes in pieces, in a lent line buffer. A line over 1,024 bytes is remembered as too long.
-ghost use Rattle.std.specs.Prelude.{◌≡◌, List, [], ◌∷◌, ℕ, ◌≤◌, length};
+// Lines put together from input that comes in pieces. Of a line over 1,024 bytes it is known only that it is too long.
+ghost use Rattle.std.specs.Prelude.{◌≡◌, List, [], ◌∷◌, ◌++◌, ℕ};
+ghost use Rattle.std.specs.Option.{option_copied};
 ghost use Rattle.records.specs.Rows.{pick};
-ghost use Rattle.text.specs.Line.{asked, longest_line};
+ghost use Rattle.text.specs.Line.{asked};
+ghost use Rattle.text.specs.Print.{newline};
 ghost use Rattle.text.specs.Program.{unended};
-ghost use Rattle.text.specs.Commands.{Reads};
-ghost use Rattle.text.specs.Gathering.{Pends, Appends, Gathers};
+ghost use Rattle.text.specs.Commands.{commanded, behind};
+ghost use Rattle.text.specs.Gathering.{first_line, Fits, Pends};
 
-use crate::print::put_bytes;
-use crate::search::find;
+use crate::search::cut;
 use crate::{Command, parse};
+use arrayvec::ArrayVec;
 
-// A line that has not ended: so many of its bytes stand in the line buffer, or it is too long.
-#[derive(Clone, Copy)]
-pub struct Pending {
-    pub len: usize,
-    pub long: bool,
-}
+// A line is not longer.
+pub const LONGEST_LINE: usize = 1024;
 
-// The line as far as the piece has it, the place where the rest of the piece starts, and whether the line has ended.
-#[derive(Clone, Copy)]
-pub struct Gathered {
-    pub line: Pending,
-    pub at: usize,
-    pub complete: bool,
-}
+// A line that has not ended: the bytes that have come, or None where there are too many.
+pub type Pending = Option<ArrayVec<u8, LONGEST_LINE>>;
 
 // A line of which nothing has come.
 pub fn fresh() -> Pending
-    ensures { (buffer : List ℕ) → Pends [] result buffer }
+    ensures { Pends [] result }
 {
-    Pending {
-        len: 0,
-        long: false,
+    Some(ArrayVec::new())
+}
+
+// Begins the next line.
+pub fn begin(line: &mut Pending)
+    ensures { Pends [] line.new }
+{
+    match line {
+        Some(kept) => kept.clear(),
+        None => *line = fresh(),
     }
 }
 
 // The line with more bytes behind it.
-fn append(buffer: &mut [u8], line: Pending, bytes: &[u8]) -> Pending
-    requires longest_line_in_bounds { longest_line ≤ length buffer.old }
-    requires len_le_longest_line { line.len ≤ longest_line }
-    ensures { Appends buffer.old line bytes.now buffer.new result }
+fn append(line: &mut Pending, bytes: &[u8])
+    ensures appends { (before : List ℕ) → Pends before line.old → Pends (before ++ bytes.now) line.new }
+    ensures fits { Fits line.new }
 {
-    let len = line.len;
-    let long = line.long;
-    if long {
-        return line;
-    }
-    if 1024 - len < bytes.len() {
-        return Pending { len, long: true };
-    }
-    let end = put_bytes(buffer, len, bytes);
-    Pending {
-        len: end,
-        long: false,
+    let fits = match line {
+        Some(kept) => kept.try_extend_from_slice(bytes).is_ok(),
+        None => false,
+    };
+    if !fits {
+        *line = None;
     }
 }
 
-// The bytes of a piece from a place on, up to the next newline or to the piece's end.
-pub fn gather(buffer: &mut [u8], line: Pending, piece: &[u8], from: usize) -> Gathered
-    requires longest_line_in_bounds { longest_line ≤ length buffer.old }
-    requires len_le_longest_line { line.len ≤ longest_line }
-    requires from_in_bounds { from ≤ length piece.now }
-    ensures { Gathers buffer.old line piece.now from buffer.new result }
+// Takes the bytes of a piece up to the next newline, or to the piece's end. The answer is the rest of the piece where the line ends.
+pub fn gather<'a>(line: &mut Pending, piece: &'a [u8]) -> Option<&'a [u8]>
+    ensures appends { (before : List ℕ) → Pends before line.old → Pends (before ++ first_line piece.now) line.new }
+    ensures fits { Fits line.new }
+    ensures rest { option_copied result ≡ behind newline piece.now }
 {
-    let to = from + find(&piece[from..], b'\n');
-    let line = append(buffer, line, &piece[from..to]);
-    if to < piece.len() {
-        return Gathered {
-            line,
-            at: to + 1,
-            complete: true,
-        };
-    }
-    Gathered {
-        line,
-        at: to,
-        complete: false,
-    }
+    let (bytes, rest) = cut(piece, b'\n');
+    append(line, bytes);
+    rest
 }
 
-// What the line asks for. The command's names and data are parts of the line buffer.
-pub fn ask(buffer: &[u8], line: Pending) -> Command
-    requires longest_line_in_bounds { longest_line ≤ length buffer.now }
-    requires len_le_longest_line { line.len ≤ longest_line }
-    ensures { (bytes : List ℕ) → Pends bytes line buffer.now → Reads buffer.now result (asked bytes) }
+// What the line asks for, which is what some line of text asks for. The command's names and data are parts of it.
+pub fn ask<'a>(line: &'a Pending) -> Option<Command<'a>>
+    ensures asked { (bytes : List ℕ) → Pends bytes line.now → commanded result ≡ asked bytes }
+    ensures some_line { (bytes : List ℕ) × (commanded result ≡ asked bytes) }
 {
-    let len = line.len;
-    let long = line.long;
-    if long {
-        return Command::Unknown;
+    match line {
+        Some(kept) => parse(kept.as_slice()),
+        None => None,
     }
-    parse(&buffer[..len])
 }
 
 // Whether there is a line where the input ends.
-pub fn has_line(line: Pending) -> bool
-    ensures { (bytes buffer : List ℕ) → longest_line ≤ length buffer → Pends bytes line buffer → unended bytes ≡ pick result (bytes ∷ []) [] }
+pub fn has_line(line: &Pending) -> bool
+    ensures { (bytes : List ℕ) → Pends bytes line.now → unended bytes ≡ pick result (bytes ∷ []) [] }
 {
-    let len = line.len;
-    let long = line.long;
-    if long {
-        return true;
+    match line {
+        Some(kept) => !kept.is_empty(),
+        None => true,
     }
-    0 < len
 }

@@ -1,58 +1,41 @@
-// Answers as lines of text, printed into a lent buffer from a place on. Each function answers the next place.
-ghost use Rattle.std.specs.Prelude.{◌≡◌, [], ◌∷◌, ◌++◌, ◌+◌, ◌*◌, ◌≤◌, ◌<◌, length};
-ghost use Rattle.meaning.specs.Run.{accepted, number_of};
-ghost use Rattle.meaning.specs.Answers.{reported, opened, counted, sought, stat_of, space_of};
-ghost use Rattle.text.specs.Line.{space};
+// Answers as lines of text, printed behind what the output holds. A number takes at most ten digits, and one byte before or behind it.
+ghost use Rattle.std.specs.Prelude.{◌≡◌, ℕ, [], ◌∷◌, ◌++◌, ◌+◌, ◌*◌, ◌≤◌, ◌<◌, length};
+ghost use Rattle.arrayvec.specs.ArrayVec.{array_vec_len};
+ghost use Rattle.meaning.specs.Run.{accepted};
+ghost use Rattle.meaning.specs.Answers.{answered, counted};
 ghost use Rattle.text.specs.Print.{decimal, hex_digit, hex, hex_word, spaced, printed, newline, question};
-ghost use Rattle.text.specs.Lays.{Lays, LaysAtMost, short_line};
 
-use meaning::{Counted, Opened, Report, Sought, Space, Stat, report_number};
+use arrayvec::ArrayVec;
+use itoa::Buffer;
+use meaning::Report;
+use meaning::values::Values;
 
-// ---- bytes, numbers, hex
+// How many bytes the output holds before they are written.
+pub const OUTPUT: usize = 65536;
 
-// One byte.
-pub fn put_byte(out: &mut [u8], at: usize, b: u8) -> usize
-    requires { at < length out.old }
-    ensures { Lays out.old at (b ∷ []) out.new result }
+pub type Output = ArrayVec<u8, OUTPUT>;
+
+// A number in decimal.
+pub fn put_decimal(out: &mut Output, n: u32)
+    requires { array_vec_len out.old + 10 ≤ OUTPUT }
+    ensures items { out.new.items ≡ out.old.items ++ decimal n }
+    ensures len { array_vec_len out.new ≤ array_vec_len out.old + 10 }
 {
-    out[at] = b;
-    at + 1
+    let mut digits = Buffer::new();
+    out.try_extend_from_slice(digits.format(n).as_bytes())
+        .unwrap();
 }
 
-// Bytes as they are.
-pub fn put_bytes(out: &mut [u8], at: usize, bytes: &[u8]) -> usize
-    requires { at + length bytes.now ≤ length out.old }
-    ensures { Lays out.old at bytes.now out.new result }
+// Numbers, each after a space.
+fn put_numbers(out: &mut Output, numbers: &[u32])
+    requires { array_vec_len out.old + 11 * length numbers.now ≤ OUTPUT }
+    ensures items { out.new.items ≡ out.old.items ++ spaced numbers.now }
+    ensures len { array_vec_len out.new ≤ array_vec_len out.old + 11 * length numbers.now }
 {
-    let mut next = at;
-    let mut i = 0;
-    while i < bytes.len() {
-        next = put_byte(out, next, bytes[i]);
-        i += 1;
+    for n in numbers {
+        out.push(b' ');
+        put_decimal(out, *n);
     }
-    next
-}
-
-// A number in decimal: the digits before its last one, and that digit.
-pub fn put_decimal(out: &mut [u8], at: usize, n: u32) -> usize
-    requires { at + 10 ≤ length out.old }
-    ensures { LaysAtMost 10 out.old at (decimal n) out.new result }
-{
-    let low = b'0' + (n % 10) as u8;
-    if n < 10 {
-        return put_byte(out, at, low);
-    }
-    let next = put_decimal(out, at, n / 10);
-    put_byte(out, next, low)
-}
-
-// A number after a space.
-fn put_number(out: &mut [u8], at: usize, n: u32) -> usize
-    requires { at + 11 ≤ length out.old }
-    ensures { LaysAtMost 11 out.old at (space ∷ decimal n) out.new result }
-{
-    let next = put_byte(out, at, b' ');
-    put_decimal(out, next, n)
 }
 
 // Hex is lower case.
@@ -63,156 +46,82 @@ fn hex_digit(n: u8) -> u8
     if n < 10 { 48 + n } else { 87 + n }
 }
 
-// A byte in hex: two digits.
-fn put_hex_byte(out: &mut [u8], at: usize, b: u8) -> usize
-    requires { at + 2 ≤ length out.old }
-    ensures { Lays out.old at (hex (b ∷ [])) out.new result }
+// Bytes in hex, two digits for each. By hand: the kit's hex fills a slice of just that length, or allocates.
+fn hex_row(bytes: &[u8], row: &mut [u8])
+    requires { length row.old ≡ 2 * length bytes.now }
+    ensures { row.new ≡ hex bytes.now }
 {
-    let next = put_byte(out, at, hex_digit(b / 16));
-    put_byte(out, next, hex_digit(b % 16))
+    for i in 0..bytes.len() {
+        row[2 * i] = hex_digit(bytes[i] / 16);
+        row[2 * i + 1] = hex_digit(bytes[i] % 16);
+    }
 }
 
-// Bytes in hex.
-pub fn put_hex(out: &mut [u8], at: usize, bytes: &[u8]) -> usize
-    requires { at + 2 * length bytes.now ≤ length out.old }
-    ensures { Lays out.old at (hex bytes.now) out.new result }
+// The same behind what the output holds, 64 bytes at a time: a push a digit is slower.
+pub fn put_hex(out: &mut Output, bytes: &[u8])
+    requires { array_vec_len out.old + 2 * length bytes.now ≤ OUTPUT }
+    ensures items { out.new.items ≡ out.old.items ++ hex bytes.now }
+    ensures len { array_vec_len out.new ≡ array_vec_len out.old + 2 * length bytes.now }
 {
-    let mut next = at;
-    let mut i = 0;
-    while i < bytes.len() {
-        next = put_hex_byte(out, next, bytes[i]);
-        i += 1;
+    let mut row = [0; 128];
+    let mut rest = bytes;
+    while !rest.is_empty() {
+        let (part, behind) = rest.split_at(rest.len().min(64));
+        let digits = &mut row[..2 * part.len()];
+        hex_row(part, digits);
+        out.try_extend_from_slice(digits).unwrap();
+        rest = behind;
     }
-    next
 }
 
 // Bytes as one hex word after a space; nothing where there are none.
-fn put_hex_word(out: &mut [u8], at: usize, bytes: &[u8]) -> usize
-    requires { at + 1 + 2 * length bytes.now ≤ length out.old }
-    ensures { Lays out.old at (hex_word bytes.now) out.new result }
+fn put_hex_word(out: &mut Output, bytes: &[u8])
+    requires { array_vec_len out.old + 1 + 2 * length bytes.now ≤ OUTPUT }
+    ensures items { out.new.items ≡ out.old.items ++ hex_word bytes.now }
+    ensures len { array_vec_len out.new ≤ array_vec_len out.old + 1 + 2 * length bytes.now }
 {
-    if bytes.len() == 0 {
-        return at;
+    if !bytes.is_empty() {
+        out.push(b' ');
+        put_hex(out, bytes);
     }
-    let next = put_byte(out, at, b' ');
-    put_hex(out, next, bytes)
 }
-
-// ---- answers, each a line with its newline
 
 // A line that is no call.
-pub fn print_unknown(out: &mut [u8], at: usize) -> usize
-    requires { at + short_line ≤ length out.old }
-    ensures { Lays out.old at (question ++ newline ∷ []) out.new result }
+pub fn print_unknown(out: &mut Output)
+    requires { array_vec_len out.old + 2 ≤ OUTPUT }
+    ensures { out.new.items ≡ out.old.items ++ question ++ newline ∷ [] }
 {
-    let next = put_byte(out, at, b'?');
-    put_byte(out, next, b'\n')
+    out.push(b'?');
+    out.push(b'\n');
 }
 
-// The report of a call that was refused.
-fn print_refusal(out: &mut [u8], at: usize, why: Report) -> usize
-    requires { at + short_line ≤ length out.old }
-    ensures { Lays out.old at (decimal (number_of why) ++ newline ∷ []) out.new result }
-{
-    let next = put_decimal(out, at, report_number(why));
-    put_byte(out, next, b'\n')
-}
-
-// A call that answers its report alone.
-pub fn print_report(out: &mut [u8], at: usize, answer: Report) -> usize
-    requires { at + short_line ≤ length out.old }
-    ensures { Lays out.old at (printed (reported answer) [] ++ newline ∷ []) out.new result }
-{
-    print_refusal(out, at, answer)
-}
-
-// The report of an accepted call, and one number.
-fn put_one(out: &mut [u8], at: usize, n: u32) -> usize
-    requires { at + 12 ≤ length out.old }
-    ensures { LaysAtMost 12 out.old at (decimal 0 ++ spaced (n ∷ [])) out.new result }
-{
-    let next = put_byte(out, at, b'0');
-    put_number(out, next, n)
-}
-
-// One number, and the line's end.
-fn print_one(out: &mut [u8], at: usize, n: u32) -> usize
-    requires { at + short_line ≤ length out.old }
-    ensures { Lays out.old at (printed (accepted (n ∷ [])) [] ++ newline ∷ []) out.new result }
-{
-    let next = put_one(out, at, n);
-    put_byte(out, next, b'\n')
-}
-
-// Three numbers, and the line's end.
-fn print_three(out: &mut [u8], at: usize, a: u32, b: u32, c: u32) -> usize
-    requires { at + short_line ≤ length out.old }
-    ensures { Lays out.old at (printed (accepted (a ∷ b ∷ c ∷ [])) [] ++ newline ∷ []) out.new result }
-{
-    let second = put_one(out, at, a);
-    let third = put_number(out, second, b);
-    let end = put_number(out, third, c);
-    put_byte(out, end, b'\n')
-}
-
-// A count, and bytes in hex.
-pub fn print_counted(out: &mut [u8], at: usize, answer: Counted, bytes: &[u8]) -> usize
-    requires { at + short_line + 2 * length bytes.now ≤ length out.old }
-    ensures { Lays out.old at (printed (counted answer) bytes.now ++ newline ∷ []) out.new result }
+// The line of an answer: the report, and the numbers of an accepted call.
+pub fn print_answer<const N: usize, T: Values<N>>(out: &mut Output, answer: Result<T, Report>)
+    requires { array_vec_len out.old + 11 * (1 + N) ≤ OUTPUT }
+    ensures { (n : ℕ) → out.new.items ≡ out.old.items ++ printed (answered n T.numbers answer) [] ++ newline ∷ [] }
 {
     match answer {
-        Counted::Of(n) => {
-            let next = put_one(out, at, n);
-            let end = put_hex_word(out, next, bytes);
-            put_byte(out, end, b'\n')
+        Ok(values) => {
+            out.push(b'0');
+            put_numbers(out, &values.numbers());
         }
-        Counted::Refused(why) => print_refusal(out, at, why),
+        Err(why) => put_decimal(out, u32::from(why)),
     }
+    out.push(b'\n');
 }
 
-// A channel.
-pub fn print_opened(out: &mut [u8], at: usize, answer: Opened) -> usize
-    requires { at + short_line ≤ length out.old }
-    ensures { Lays out.old at (printed (opened answer) [] ++ newline ∷ []) out.new result }
+// The line of a count, and of so many bytes in hex.
+pub fn print_counted(out: &mut Output, answer: Result<u32, Report>, bytes: &[u8])
+    requires { array_vec_len out.old + 23 + 2 * length bytes.now ≤ OUTPUT }
+    ensures { out.new.items ≡ out.old.items ++ printed (counted answer) bytes.now ++ newline ∷ [] }
 {
     match answer {
-        Opened::At(c) => print_one(out, at, c.0),
-        Opened::Refused(why) => print_refusal(out, at, why),
-    }
-}
-
-// A position.
-pub fn print_sought(out: &mut [u8], at: usize, answer: Sought) -> usize
-    requires { at + short_line ≤ length out.old }
-    ensures { Lays out.old at (printed (sought answer) [] ++ newline ∷ []) out.new result }
-{
-    match answer {
-        Sought::At(posn) => print_one(out, at, posn),
-        Sought::Refused(why) => print_refusal(out, at, why),
-    }
-}
-
-// Length, file number, kind.
-pub fn print_stat(out: &mut [u8], at: usize, answer: Stat) -> usize
-    requires { at + short_line ≤ length out.old }
-    ensures { Lays out.old at (printed (stat_of answer) [] ++ newline ∷ []) out.new result }
-{
-    match answer {
-        Stat::Of(size, file, kind) => {
-            let number = file.0;
-            print_three(out, at, size, number as u32, kind as u32)
+        Ok(n) => {
+            out.push(b'0');
+            put_numbers(out, &[n]);
+            put_hex_word(out, bytes);
         }
-        Stat::Refused(why) => print_refusal(out, at, why),
+        Err(why) => put_decimal(out, u32::from(why)),
     }
-}
-
-// Free blocks, free file numbers, free channels.
-pub fn print_space(out: &mut [u8], at: usize, answer: Space) -> usize
-    requires { at + short_line ≤ length out.old }
-    ensures { Lays out.old at (printed (space_of answer) [] ++ newline ∷ []) out.new result }
-{
-    match answer {
-        Space::Of(blocks, files, channels) => print_three(out, at, blocks, files, channels),
-        Space::Refused(why) => print_refusal(out, at, why),
-    }
+    out.push(b'\n');
 }

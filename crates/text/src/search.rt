@@ -1,35 +1,25 @@
-// Searches in rows of bytes.
-ghost use Rattle.std.specs.Prelude.{◌≡◌};
-ghost use Rattle.meaning.specs.Name.{same};
-ghost use Rattle.text.specs.Commands.{first_of};
+// A row of bytes, cut where a byte stands first.
+ghost use Rattle.std.specs.Prelude.{◌≡◌, take, length};
+ghost use Rattle.std.specs.Option.{option_copied};
+ghost use Rattle.records.specs.Rows.{found_below};
+ghost use Rattle.text.specs.Commands.{first_of, behind};
 
-// Where a byte stands first, or the end where it does not.
-pub fn find(bytes: &[u8], b: u8) -> usize
-    ensures { result ≡ first_of b bytes.now }
+use records::rows::lowest;
+
+// Where a byte stands first, if it does.
+fn find(bytes: &[u8], b: u8) -> Option<usize>
+    ensures { result ≡ found_below (length bytes.now) (first_of b bytes.now) }
 {
-    let mut i = 0;
-    while i < bytes.len() {
-        if bytes[i] == b {
-            return i;
-        }
-        i += 1;
-    }
-    bytes.len()
+    lowest(bytes.len(), |i| bytes[i] == b)
 }
 
-// Whether two rows of bytes are the same.
-pub fn same_bytes(a: &[u8], b: &[u8]) -> bool
-    ensures { result ≡ same a.now b.now }
+// What stands before a byte, and what follows it, if it is there.
+pub fn cut(bytes: &[u8], b: u8) -> (&[u8], Option<&[u8]>)
+    ensures before { result.0.now ≡ take (first_of b bytes.now) bytes.now }
+    ensures behind { option_copied result.1 ≡ behind b bytes.now }
 {
-    if a.len() != b.len() {
-        return false;
+    match find(bytes, b) {
+        Some(i) => (&bytes[..i], Some(&bytes[i + 1..])),
+        None => (bytes, None),
     }
-    let mut i = 0;
-    while i < a.len() {
-        if a[i] != b[i] {
-            return false;
-        }
-        i += 1;
-    }
-    true
 }

@@ -12,16 +12,16 @@ all_of_them : (records : List ℕ) (f n b : ℕ) (now : List ℕ) → WholeRecor
 all_of_them records f n b now w e h = e ∙ release_end records f n b w.whole h
 
 pub loop-b-init : goal.loop-b-init
-loop-b-init c = (refl, omega arith, refl, search release_start)
+loop-b-init c = (refl, search release_start)
 
 pub overflow_cast-b : goal.overflow_cast-b
 overflow_cast-b c = omega (arith, c.requires.few)
 
 pub loop-b-preserved : goal.loop-b-preserved
-loop-b-preserved c = (refl, omega arith, search rules, search release_next)
+loop-b-preserved c = (search rules, search release_next)
 
 pub shape_of-block_records : goal.shape_of-block_records
-shape_of-block_records c = c.loop-b.invariant.2
+shape_of-block_records c = c.loop-b.invariant.0
 
 pub returns : goal.returns
 returns c = search all_of_them

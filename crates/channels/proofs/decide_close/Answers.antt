@@ -1,12 +1,16 @@
--- Each return is a case of whether the file is an orphan once its channel is closed, by the tests that led there.
+-- Whether the file goes is whether it is an orphan once its channel is closed.
 use Prim.Native.Nat.{ℕ, ◌-◌, ◌<◌}
 use mathlib.Core.Path.{◌≡◌, refl, sym, ap, ◌∙◌}
 use mathlib.Core.Logic.{◌≢◌}
-use mathlib.Core.List.{List, [], ◌∷◌}
-use mathlib.Core.Bool.{true}
+use mathlib.Core.List.{[], ◌∷◌}
+use mathlib.Core.Bool.{Bool, true, false, ◌&&◌}
+use lib.Dec.{eqb}
 use native.Mathlib.Omega.{arith}
+use Rattle.std.specs.Bool.{then_some}
+use Rattle.std.specs.Prelude.{Ok, Err}
+use Rattle.std.proofs.lemmas.Result.{err_from_is_err_and}
 use Rattle.meaning.specs.Store.{channel, no_channel, in_use, names, let_go}
-use Rattle.meaning.specs.Tables.{Tables, tables, store_of, channel_of}
+use Rattle.meaning.specs.Tables.{Tables, store_of, channel_of}
 use Rattle.meaning.specs.ChannelCalls.{close}
 use Rattle.meaning.specs.Result.{Result, done}
 use Rattle.meaning.specs.Run.{Call, result_of, meaning, accepts}
@@ -21,13 +25,11 @@ use Rattle.tables.specs.declared.ChannelRecord.{ChannelRecord}
 use Rattle.tables.specs.declared.FileRecord.{FileRecord}
 use Rattle.files.specs.FileLaws.{clearable}
 use Rattle.counts.specs.OfStore.{OfStore, of_store}
-use Rattle.channels.specs.Held.{OnChannel, Holds, on_channel_of}
-use Rattle.channels.specs.HeldLaws.{refuses, holding, gives, channel_there, file_there, file_used, file_some, file-last, kind_is}
+use Rattle.channels.specs.Held.{OnChannel, on_channel_of}
+use Rattle.channels.specs.HeldLaws.{refuses, holding, gives, channel_there, file_there, file_used, kind_is}
 use Rattle.channels.specs.Close.{Closes}
-use Rattle.channels.specs.CloseLaws.{closed, holders, stays_directory, stays_held, stays_named, goes}
-use Rattle.channels.specs.declared.Held.{Held}
-use Rattle.channels.specs.declared.Held.TheVariants.{Open, Refused}
-use Rattle.channels.specs.declared.Closing.TheVariants.{Alone, WithFile, No}
+use Rattle.channels.specs.CloseLaws.{closed, holders, goes_where}
+use Rattle.channels.proofs.decide_close.Goals.{then-is, else-is, then-count_channels-eq1, else-count_channels-eq1}
 use Rattle.channels.proofs.decide_close.Goals as goal
 
 abbrev rest : Tables → ℕ → Result
@@ -37,86 +39,93 @@ on_channel_lem : (t : Tables) (c : ℕ) → on_channel_of t c (rest t c) ≡ res
 unfolding result_of meaning accepts close on_channel_of
 on_channel_lem t c = refl
 
-module _ (b br fr cr : List ℕ) (c : ℕ) (h : Held) (on : OnChannel (tables b br fr cr) c h) where
-  abbrev t : Tables
-  t = tables b br fr cr
+-- a row of tests, of which a later one is asked only where an earlier one passes
+module _ (a b v : Bool) where
+  asked : (w : Bool) → a ≡ w → a ≡ true → v ≡ b → v ≡ w && b
+  asked w is e so = so ∙ rw (sym is ∙ e)
 
-  refusal : (why : Report) → h ≡ Refused why → Closes t c (No why)
-  refusal why e = record { means = refuses t c h on why e (rest t c) ∙ on_channel_lem t c; inside = tt }
+  not_asked : (w : Bool) → a ≡ w → a ≡ false → v ≡ a → v ≡ w && b
+  not_asked w is e so = so ∙ e ∙ rw (sym is ∙ e)
 
-  module _ (y : ChannelRecord) (e : h ≡ Open y) where
+module _ (t : Tables) (c : ℕ) where
+  refusal : (why : Report) → OnChannel t c (Err why) → Closes t c (Err why)
+  refusal why on = record { means = refuses t c why on (rest t c) ∙ on_channel_lem t c; fits = tt }
+
+  module _ (y : ChannelRecord) (on : OnChannel t c (Ok y)) where
     abbrev f : ℕ
     f = ((store_of t).channel c).file
 
-    holds : Holds t c y
-    holds = holding t c h on y e
-
     given : rest t c ≡ result_of (Call.Close c) t
-    given = gives t c h on y e (rest t c) ∙ on_channel_lem t c
+    given = gives t c y on (rest t c) ∙ on_channel_lem t c
 
     below : c < (store_of t).channel_count
     unfolding store_of
-    below = channel_there t c y holds
+    below = channel_there t c y on
 
     some : f ≢ 0
-    some = omega (arith, (file_there t c y holds).0, holds.file)
+    some = omega (arith, (file_there t c y on).0, (holding t c y on).file)
 
     used : in_use (store_of t) f ≡ true
-    used = rw (← holds.file) (of_used (store_of t) y.file.0 (file_used t c y holds))
+    used = rw (← (holding t c y on).file) (of_used (store_of t) y.file.0 (file_used t c y on))
 
-    alone : let_go (closed (store_of t) c) f ≡ [] → Closes t c Alone
-    alone none = record { means = rw none at given; inside = channel_there t c y holds }
+    of_file : OfStore t.blocks t.block_records t.file_records y.file.0
+    of_file = of_store t (holding t c y on).ok y.file.0 (file_there t c y on).1
 
-    of_file : OfStore b br fr y.file.0
-    of_file = of_store t holds.ok y.file.0 (file_there t c y holds).1
-
-    module _ (x : FileRecord) (read : FileRead fr (y.file.0 - 1) x) where
+    module _ (x : FileRecord) (read : FileRead t.file_records (y.file.0 - 1) x) where
       kind : ((store_of t).file f).kind ≡ x.kind
-      kind = kind_is t c y holds ∙ sym read.kind
+      kind = kind_is t c y on ∙ sym read.kind
 
-      not_ordinary : x.kind ≢ 1 → Closes t c Alone
-      not_ordinary d = alone (stays_directory (store_of t) c f below refl some used (λ k. d (sym kind ∙ k)))
+      count : holders (store_of t) f ≡ channels_with t.channel_records y.file.0
+      unfolding store_of channel_of channels_with
+      count = ap (channels_with t.channel_records) (sym (holding t c y on).file)
 
-      module _ (n : ℕ) (counted : n ≡ channels_with cr y.file.0) where
-        count : holders (store_of t) f ≡ n
-        unfolding store_of channel_of channels_with
-        count = ap (channels_with cr) (sym holds.file) ∙ sym counted
+      name-count : names (store_of t) f ≡ names (directories_store t.blocks t.block_records t.file_records) y.file.0
+      name-count = ap (names (store_of t)) (sym (holding t c y on).file) ∙ names-seen t.blocks t.block_records t.file_records t.channel_records y.file.0
 
-        other_channel : n ≢ 1 → Closes t c Alone
-        other_channel d = alone (stays_held (store_of t) c f below refl some used (λ k. d (sym count ∙ k)))
+      -- ordinary, held by one channel, named by no record: as the code asks it
+      abbrev one_holder : Bool
+      one_holder = eqb x.kind 1 && eqb (channels_with t.channel_records y.file.0) 1
 
-        module _ (m : ℕ) (named : m ≡ names (directories_store b br fr) y.file.0) where
-          name-count : names (store_of t) f ≡ m
-          name-count = ap (names (store_of t)) (sym holds.file) ∙ names-seen b br fr cr y.file.0 ∙ sym named
+      abbrev lone : Bool
+      lone = one_holder && eqb (names (directories_store t.blocks t.block_records t.file_records) y.file.0) 0
 
-          has_name : m ≢ 0 → Closes t c Alone
-          has_name d = alone (stays_named (store_of t) c f below refl some used (λ k. d (sym name-count ∙ k)))
+      decides : (goes : Bool) → lone ≡ goes → Closes t c (Ok (then_some goes y.file))
+      decides true e =
+          let gone = goes_where (store_of t) c f below refl some used in
+          record {
+            means = rw (gone, kind, count, name-count, e, ← (holding t c y on).file) at given;
+            fits = record {
+              below = channel_there t c y on;
+              can_go = clearable t (sound_layout t (holding t c y on).ok) y.file.0 (file_there t c y on).0 (file_there t c y on).1;
+            };
+          }
+      decides false e =
+          let gone = goes_where (store_of t) c f below refl some used in
+          record { means = rw (gone, kind, count, name-count, e) at given; fits = record { below = channel_there t c y on; can_go = tt } }
 
-          orphaned : x.kind ≡ 1 → n ≡ 1 → m ≡ 0 → Closes t c (WithFile y.file)
-          orphaned k l z =
-              let gone = goes (store_of t) c f below refl some used (kind ∙ k) (count ∙ l) (name-count ∙ z) in
-              record {
-                means = rw (gone, ← holds.file) at given;
-                inside = (channel_there t c y holds, clearable t (sound_layout t holds.ok) y.file.0 (file_there t c y holds).0 (file_there t c y holds).1);
-              }
+pub returns-in_err-file : goal.returns-in_err-file
+returns-in_err-file c =
+    let p = err_from_is_err_and c.from_residual.result c.from_residual.ensures.1 in
+    rw (p.1, p.2) (refusal _ _ _ c.in_err-file.ensures)
 
-pub file_record-record-requires : goal.file_record-record-requires
-file_record-record-requires c = (search file_some, search file-last)
-
-pub returns-then-record-ne1 : goal.returns-then-record-ne1
-returns-then-record-ne1 c = search not_ordinary
-
-pub returns-then-count_channels-ne1 : goal.returns-then-count_channels-ne1
-returns-then-count_channels-ne1 c = search other_channel
+pub file_record-requires : goal.file_record-requires
+file_record-requires c = file_there _ _ _ c.in_ok-file.ensures
 
 pub names_of-requires : goal.names_of-requires
-names_of-requires c = search of_file
+names_of-requires c = of_file _ _ _ c.in_ok-file.ensures
 
-pub returns-then-names_of-ne0 : goal.returns-then-names_of-ne0
-returns-then-names_of-ne0 c = search has_name
-
-pub returns-in-Refused : goal.returns-in-Refused
-returns-in-Refused c = search refusal
-
-pub returns-else-names_of-ne0 : goal.returns-else-names_of-ne0
-returns-else-names_of-ne0 c = search orphaned
+pub returns : goal.returns
+returns c =
+    let on = c.in_ok-file.ensures in
+    let read = c.file_record.ensures in
+    let held : c.if-is.value ≡ one_holder _ _ _ on _ read =
+    elim c.if-is.branch [
+      | then-is w ↦ asked _ _ _ _ c.is.ensures w.if-is.true (w.value-is ∙ ap (λ n. eqb n 1) w.count_channels.ensures)
+      | else-is w ↦ not_asked _ _ _ _ c.is.ensures w.if-is.false w.value-is
+    ] in
+    let goes : c.if-count_channels-eq1.goes ≡ lone _ _ _ on _ read =
+    elim c.if-count_channels-eq1.branch [
+      | then-count_channels-eq1 w ↦ asked _ _ _ _ held w.if-count_channels-eq1.true (w.goes-is ∙ ap (λ n. eqb n 0) w.names_of.ensures)
+      | else-count_channels-eq1 w ↦ not_asked _ _ _ _ held w.if-count_channels-eq1.false w.goes-is
+    ] in
+    rw c.then_some.ensures (decides _ _ _ on _ read _ (sym goes))

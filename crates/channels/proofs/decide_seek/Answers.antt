@@ -1,12 +1,15 @@
 -- Each return is a case of what seek gives on a channel in use, by the tests that led there.
 use Prim.Native.Nat.{ℕ, ◌-◌, ◌≤◌, ◌<◌}
-use mathlib.Core.Path.{◌≡◌, refl, ◌∙◌}
+use mathlib.Core.Path.{◌≡◌, refl, ap, ◌∙◌}
 use mathlib.Core.List.{[], ◌∷◌}
-use mathlib.Core.Bool.{◌||◌}
+use mathlib.Core.Bool.{Bool, true, false, ◌||◌}
 use native.Mathlib.Omega.{arith}
 use borrow.Author.Tests.{lt-ltb, le-ltb}
 use lib.ListN.{length}
 use lib.Dec.{ltb}
+use Rattle.std.specs.Prelude.{Option, Some, None, Ok, Err, ok_or, Result as Answers}
+use Rattle.std.proofs.lemmas.Result.{err_from_is_err_and}
+use Rattle.records.specs.Rows.{pick}
 use Rattle.meaning.specs.Store.{channel, channel_to}
 use Rattle.meaning.specs.Tables.{Tables, store_of}
 use Rattle.meaning.specs.ChannelCalls.{seek, seek_to, last_position}
@@ -18,12 +21,19 @@ use Rattle.tables.specs.declared.ChannelRecord.{ChannelRecord}
 use Rattle.tables.specs.declared.FileRecord.{FileRecord}
 use Rattle.tables.specs.Read.{FileRead}
 use Rattle.channels.specs.Held.{OnChannel, on_channel_of}
-use Rattle.channels.specs.HeldLaws.{refuses, holding, gives, channel_there, file_some, file-last, size_is}
+use Rattle.channels.specs.HeldLaws.{refuses, holding, gives, channel_there, file_there, size_is}
 use Rattle.channels.specs.Seek.{Decided}
-use Rattle.channels.specs.declared.Held.{Held}
-use Rattle.channels.specs.declared.Held.TheVariants.{Open, Refused}
-use Rattle.channels.specs.declared.Seeking.TheVariants.{To, No}
 use Rattle.channels.proofs.decide_seek.Goals as goal
+
+-- a mode that leads somewhere, and one that does not
+module _ (v : ℕ) where
+  somewhere : (high : Bool) (to : ℕ) → ◌≡◌ {A = Answers ℕ Report} (Ok to) (ok_or (pick high None (Some v)) BadSeek) → (high ≡ false) × (to ≡ v)
+  somewhere true to e = let z : ◌≡◌ {A = ℕ} 0 1 = cc in absurd (omega arith)
+  somewhere false to e = (refl, cc)
+
+  nowhere : (high : Bool) (why : Report) → ◌≡◌ {A = Answers ℕ Report} (Err why) (ok_or (pick high None (Some v)) BadSeek) → (high ≡ true) × (why ≡ BadSeek)
+  nowhere true why e = (refl, cc)
+  nowhere false why e = let z : ◌≡◌ {A = ℕ} 0 1 = cc in absurd (omega arith)
 
 -- where it leads from an open channel, and what it gives then
 abbrev leads : Tables → ℕ → ℕ → ℕ → ℕ
@@ -38,47 +48,63 @@ on_channel_lem : (t : Tables) (c mode n : ℕ) → on_channel_of t c (rest t c m
 unfolding result_of meaning accepts seek on_channel_of
 on_channel_lem t c mode n = refl
 
-module _ (t : Tables) (c mode n : ℕ) (h : Held) (on : OnChannel t c h) where
-  refusal : (why : Report) → h ≡ Refused why → Decided t c mode n (No why)
-  refusal why e = record { means = refuses t c h on why e (rest t c mode n) ∙ on_channel_lem t c mode n; inside = tt }
+module _ (t : Tables) (c mode n : ℕ) where
+  refusal : (why : Report) → OnChannel t c (Err why) → Decided t c mode n (Err why)
+  refusal why on = record { means = refuses t c why on (rest t c mode n) ∙ on_channel_lem t c mode n; fits = tt }
 
-  module _ (y : ChannelRecord) (e : h ≡ Open y) where
+  module _ (y : ChannelRecord) (on : OnChannel t c (Ok y)) (x : FileRecord) (read : FileRead t.file_records (y.file.0 - 1) x)
+      (s : Option ℕ) (is : s ≡ pick (ltb 5 mode) None (Some (seek_to mode y.position x.length n))) where
     given : rest t c mode n ≡ result_of (Call.Seek c mode n) t
-    given = gives t c h on y e (rest t c mode n) ∙ on_channel_lem t c mode n
+    given = gives t c y on (rest t c mode n) ∙ on_channel_lem t c mode n
 
-    mode_above : 5 < mode → Decided t c mode n (No BadSeek)
+    mode_above : (why : Report) → ◌≡◌ {A = Answers ℕ Report} (Err why) (ok_or s BadSeek) → Decided t c mode n (Err why)
     unfolding unless
-    mode_above m = record { means = rw (lt-ltb 5 mode m) at given; inside = tt }
+    mode_above why e =
+        let high = nowhere (seek_to mode y.position x.length n) (ltb 5 mode) why (e ∙ ap (λ s. ok_or s BadSeek) is) in
+        rw high.1 (record { means = rw high.0 at given; fits = tt })
 
-    module _ (low : mode ≤ 5) (x : FileRecord) (read : FileRead t.file_records (y.file.0 - 1) x) (to : ℕ) (is : to ≡ seek_to mode y.position x.length n) where
+    module _ (to : ℕ) (e : ◌≡◌ {A = Answers ℕ Report} (Ok to) (ok_or s BadSeek)) where
+      low : (ltb 5 mode ≡ false) × (to ≡ seek_to mode y.position x.length n)
+      low = somewhere (seek_to mode y.position x.length n) (ltb 5 mode) to (e ∙ ap (λ s. ok_or s BadSeek) is)
+
       leads-to : leads t c mode n ≡ to
       leads-to =
-          let p = (holding t c h on y e).posn in
-          let l = size_is t c y (holding t c h on y e) in
+          let p = (holding t c y on).posn in
+          let l = size_is t c y on in
           let r = read.length in
+          let there = low.1 in
           cc
 
-      far : last_position < to → Decided t c mode n (No BadSeek)
+      far : last_position < to → Decided t c mode n (Err BadSeek)
       unfolding unless
-      far m = record { means = rw (le-ltb 5 mode low, leads-to, lt-ltb last_position to m) at given; inside = tt }
+      far m = record { means = rw (low.0, leads-to, lt-ltb last_position to m) at given; fits = tt }
 
-      near : to ≤ last_position → Decided t c mode n (To (record { file = y.file; position = to }))
+      near : to ≤ last_position → Decided t c mode n (Ok (record { file = y.file; position = to }))
       unfolding unless
       near m =
-          let d = holding t c h on y e in
-          record { means = rw (le-ltb 5 mode low, leads-to, le-ltb last_position to m, ← d.file) at given; inside = channel_there t c y d }
+          let d = holding t c y on in
+          record { means = rw (low.0, leads-to, le-ltb last_position to m, ← d.file) at given; fits = channel_there t c y on }
 
-pub returns-then-mode-gt5 : goal.returns-then-mode-gt5
-returns-then-mode-gt5 c = search mode_above
+pub returns-in_err-channel : goal.returns-in_err-channel
+returns-in_err-channel c =
+    let p = err_from_is_err_and c.from_residual.result c.from_residual.ensures.1 in
+    rw (p.1, p.2) (refusal _ _ _ _ _ c.in_err-channel.ensures)
 
 pub file_record-record-requires : goal.file_record-record-requires
-file_record-record-requires c = (search file_some, search file-last)
+file_record-record-requires c = file_there _ _ _ c.in_ok-channel.ensures
+
+pub returns-in_err-to : goal.returns-in_err-to
+returns-in_err-to c =
+    let p = err_from_is_err_and c.from_residual-in_err-to.result c.from_residual-in_err-to.ensures.1 in
+    rw (p.1, p.2)
+    (mode_above _ _ _ _ _ c.in_ok-channel.ensures _ c.file_record-record.ensures _ c.seek_to.ensures _ c.in_err-to.ensures.value)
 
 pub returns-then-to : goal.returns-then-to
-returns-then-to c = let past : last_position < c.seek_to-to.result = omega arith in search far
+returns-then-to c =
+    let past : last_position < c.in_ok-to.to = omega arith in
+    far _ _ _ _ _ c.in_ok-channel.ensures _ c.file_record-record.ensures _ c.seek_to.ensures _ c.in_ok-to.ensures.value past
 
-pub returns-in-Refused : goal.returns-in-Refused
-returns-in-Refused c = search refusal
-
-pub returns-else-to : goal.returns-else-to
-returns-else-to c = search near
+pub returns : goal.returns
+returns c =
+    let within : c.in_ok-to.to ≤ last_position = omega arith in
+    near _ _ _ _ _ c.in_ok-channel.ensures _ c.file_record-record.ensures _ c.seek_to.ensures _ c.in_ok-to.ensures.value within

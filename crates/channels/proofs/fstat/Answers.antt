@@ -1,21 +1,27 @@
 -- A refusal leaves all as it was; else the file's record says length and kind.
 use Prim.Native.Nat.{ℕ, ◌-◌}
-use mathlib.Core.Path.{◌≡◌, refl, sym, ◌∙◌}
+use mathlib.Core.Path.{◌≡◌, refl, sym, ap, ◌∙◌}
+use mathlib.Core.Bool.{Bool, true, false}
 use mathlib.Core.List.{[], ◌∷◌}
+use lib.Dec.{eqb}
 use lib.ListN.{length}
+use borrow.Author.Tests.{eqb-true, eqb_apart}
+use Rattle.std.specs.Prelude.{Ok, Err}
+use Rattle.std.proofs.lemmas.Result.{err_from_is_err_and}
 use Rattle.meaning.specs.Tables.{Tables, store_of, put_all}
+use Rattle.meaning.specs.Types.{kind_number}
 use Rattle.meaning.specs.ChannelCalls.{fstat}
 use Rattle.meaning.specs.Result.{Result, done}
 use Rattle.meaning.specs.Run.{Call, result_of, meaning, accepts, Promise, refusal, accepted}
 use Rattle.meaning.proofs.PromiseLaws.{kept_refusal, kept_done}
+use Rattle.meaning.specs.declared.Kind.TheVariants.{File, Directory}
 use Rattle.meaning.specs.declared.Report.{Report}
 use Rattle.tables.specs.declared.ChannelRecord.{ChannelRecord}
 use Rattle.tables.specs.declared.FileRecord.{FileRecord}
 use Rattle.tables.specs.Read.{FileRead}
 use Rattle.channels.specs.Held.{OnChannel, on_channel_of}
-use Rattle.channels.specs.HeldLaws.{refuses, holding, gives, file_some, file-last, size_is, kind_is}
-use Rattle.channels.specs.declared.Held.{Held}
-use Rattle.channels.specs.declared.Held.TheVariants.{Open, Refused}
+use Rattle.channels.specs.HeldLaws.{refuses, holding, gives, file_there, plain_file, size_is, kind_is}
+use Rattle.channels.proofs.fstat.Goals.{then-is, else-is}
 use Rattle.channels.proofs.fstat.Goals as goal
 
 abbrev rest : Tables → ℕ → Result
@@ -27,26 +33,43 @@ on_channel_lem : (t : Tables) (c : ℕ) → on_channel_of t c (rest t c) ≡ res
 unfolding result_of meaning accepts fstat on_channel_of
 on_channel_lem t c = refl
 
-module _ (t : Tables) (c : ℕ) (h : Held) (on : OnChannel t c h) where
-  refused_so : (why : Report) → h ≡ Refused why → Promise (Call.Fstat c) t [] (record { answer = refusal 3 why; buffer = []; tables = t })
-  refused_so why e = kept_refusal (Call.Fstat c) t [] why (refuses t c h on why e (rest t c) ∙ on_channel_lem t c)
+module _ (t : Tables) (c : ℕ) where
+  refused_so : (why : Report) → OnChannel t c (Err why) → Promise (Call.Fstat c) t [] (record { answer = refusal 3 why; buffer = []; tables = t })
+  refused_so why on = kept_refusal (Call.Fstat c) t [] why (refuses t c why on (rest t c) ∙ on_channel_lem t c)
 
-  told : (y : ChannelRecord) → h ≡ Open y → (x : FileRecord) → FileRead t.file_records (y.file.0 - 1) x
-      → Promise (Call.Fstat c) t [] (record { answer = accepted (x.length ∷ y.file.0 ∷ x.kind ∷ []); buffer = []; tables = t })
-  unfolding put_all
-  told y e x read =
-      let d = holding t c h on y e in
-      let size = size_is t c y d ∙ sym read.length in
-      let kind = kind_is t c y d ∙ sym read.kind in
-      let means : done (x.length ∷ y.file.0 ∷ x.kind ∷ []) [] [] ≡ result_of (Call.Fstat c) t =
-      rw (size, kind, ← d.file) at (gives t c h on y e (rest t c) ∙ on_channel_lem t c) in
-      kept_done (Call.Fstat c) t [] (x.length ∷ y.file.0 ∷ x.kind ∷ []) [] [] means t refl
+  module _ (y : ChannelRecord) (on : OnChannel t c (Ok y)) (x : FileRecord) (read : FileRead t.file_records (y.file.0 - 1) x) where
+    kind : ((store_of t).file ((store_of t).channel c).file).kind ≡ x.kind
+    kind = kind_is t c y on ∙ sym read.kind
+
+    -- a file in use is a directory or ordinary
+    directory : (is : Bool) → is ≡ eqb x.kind 2 → is ≡ true → kind_number Directory ≡ x.kind
+    directory is tells e = sym (eqb-true x.kind 2 (sym tells ∙ e))
+
+    ordinary : (is : Bool) → is ≡ eqb x.kind 2 → is ≡ false → kind_number File ≡ x.kind
+    ordinary is tells e =
+        let same : ((store_of t).file y.file.0).kind ≡ x.kind = rw (holding t c y on).file kind in
+        sym (sym same ∙ (plain_file t c y on (rw same (eqb_apart x.kind 2 (sym tells ∙ e)))).kind)
+
+    told : (k : ℕ) → k ≡ x.kind → Promise (Call.Fstat c) t [] (record { answer = accepted (x.length ∷ y.file.0 ∷ k ∷ []); buffer = []; tables = t })
+    unfolding put_all
+    told k is =
+        let size = size_is t c y on ∙ sym read.length in
+        let means : done (x.length ∷ y.file.0 ∷ k ∷ []) [] [] ≡ result_of (Call.Fstat c) t =
+        rw (size, kind, ← is, ← (holding t c y on).file) at (gives t c y on (rest t c) ∙ on_channel_lem t c) in
+        kept_done (Call.Fstat c) t [] (x.length ∷ y.file.0 ∷ k ∷ []) [] [] means t refl
+
+pub returns-in_err-channel : goal.returns-in_err-channel
+returns-in_err-channel c =
+    let p = err_from_is_err_and c.from_residual.result c.from_residual.ensures.1 in
+    rw (p.1, p.2) (refused_so _ _ _ c.in_err-channel.ensures)
 
 pub file_record-record-requires : goal.file_record-record-requires
-file_record-record-requires c = (search file_some, search file-last)
+file_record-record-requires c = file_there _ _ _ c.in_ok-channel.ensures
 
-pub returns-in-Refused : goal.returns-in-Refused
-returns-in-Refused c = search refused_so
-
-pub returns-in-Open : goal.returns-in-Open
-returns-in-Open c = search told
+pub returns : goal.returns
+returns c =
+    told _ _ _ c.in_ok-channel.ensures _ c.file_record-record.ensures _
+    (elim c.if-is.branch [
+      | then-is w ↦ ap kind_number w.kind-is ∙ directory _ _ _ c.in_ok-channel.ensures _ c.file_record-record.ensures _ c.is.ensures w.if-is.true
+      | else-is w ↦ ap kind_number w.kind-is ∙ ordinary _ _ _ c.in_ok-channel.ensures _ c.file_record-record.ensures _ c.is.ensures w.if-is.false
+    ])

@@ -1,44 +1,43 @@
 -- Each return is a case of the refusals that come first, by the tests that led there.
 use Prim.Native.Nat.{ℕ, ◌/◌, ◌≤◌, ◌<◌}
 use mathlib.Core.Path.{◌≡◌, sym, ◌∙◌}
-use mathlib.Core.Logic.{◌≢◌}
 use mathlib.Core.Bool.{Bool, true, false, not}
-use mathlib.Core.List.{List}
+use lib.Dec.{eqb}
 use lib.ListN.{length}
-use borrow.Author.Tests.{not-true, not-false}
-use Rattle.meaning.specs.Tables.{tables}
+use borrow.Author.Tests.{not-true, not-false, eqb-true, eqb_apart}
+use Rattle.std.specs.Prelude.{Ok, Err}
+use Rattle.meaning.specs.Tables.{Tables}
 use Rattle.meaning.specs.Sound.{sound}
 use Rattle.meaning.specs.declared.Report.TheVariants.{NotAStore, NoSuchCid}
 use Rattle.tables.specs.declared.ChannelRecord.{ChannelRecord}
 use Rattle.tables.specs.Read.{ChannelRead}
 use Rattle.channels.specs.Held.{OnChannel}
 use Rattle.channels.specs.HeldLaws.{on_unsound, on_beyond, on_free, on_open}
-use Rattle.channels.specs.declared.Held.TheVariants.{Open, Refused}
 use Rattle.channels.proofs.held_channel.Goals as goal
 
-module _ (b br fr cr : List ℕ) (c : ℕ) (ok : Bool) (is : ok ≡ sound (tables b br fr cr)) where
-  unsound : not ok ≡ true → OnChannel (tables b br fr cr) c (Refused NotAStore)
-  unsound e = on_unsound (tables b br fr cr) c (sym is ∙ not-true ok e)
+module _ (t : Tables) (c : ℕ) (ok : Bool) (is : ok ≡ sound t) where
+  unsound : not ok ≡ true → OnChannel t c (Err NotAStore)
+  unsound e = on_unsound t c (sym is ∙ not-true ok e)
 
   module _ (so : not ok ≡ false) where
-    beyond : length cr / 8 ≤ c → OnChannel (tables b br fr cr) c (Refused NoSuchCid)
-    beyond h = on_beyond (tables b br fr cr) c (sym is ∙ not-false ok so) h
+    beyond : length t.channel_records / 8 ≤ c → OnChannel t c (Err NoSuchCid)
+    beyond h = on_beyond t c (sym is ∙ not-false ok so) h
 
-    module _ (h : c < length cr / 8) (y : ChannelRecord) (read : ChannelRead cr c y) where
-      free : y.file.0 ≡ 0 → OnChannel (tables b br fr cr) c (Refused NoSuchCid)
-      free e = on_free (tables b br fr cr) c (sym is ∙ not-false ok so) h y read e
+    module _ (h : c < length t.channel_records / 8) (y : ChannelRecord) (read : ChannelRead t.channel_records c y) (none : Bool) (tells : none ≡ eqb y.file.0 0) where
+      free : none ≡ true → OnChannel t c (Err NoSuchCid)
+      free e = on_free t c (sym is ∙ not-false ok so) h y read (eqb-true y.file.0 0 (sym tells ∙ e))
 
-      opened : y.file.0 ≢ 0 → OnChannel (tables b br fr cr) c (Open y)
-      opened d = on_open (tables b br fr cr) c (sym is ∙ not-false ok so) h y read d
+      held : none ≡ false → OnChannel t c (Ok y)
+      held e = on_open t c (sym is ∙ not-false ok so) h y read (eqb_apart y.file.0 0 (sym tells ∙ e))
 
 pub returns-then-not-is_sound : goal.returns-then-not-is_sound
 returns-then-not-is_sound c = search unsound
 
-pub returns-then-channel_records-c : goal.returns-then-channel_records-c
-returns-then-channel_records-c c = search beyond
+pub returns-then-store-c : goal.returns-then-store-c
+returns-then-store-c c = search beyond
 
-pub returns-then-record-eq0 : goal.returns-then-record-eq0
-returns-then-record-eq0 c = search free
+pub returns-then-is_none : goal.returns-then-is_none
+returns-then-is_none c = search free
 
 pub returns : goal.returns
-returns c = search opened
+returns c = search held

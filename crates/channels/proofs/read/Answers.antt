@@ -4,11 +4,13 @@ use mathlib.Core.Path.{◌≡◌, refl, ap, ◌∙◌}
 use mathlib.Core.List.{List, [], ◌∷◌}
 use native.Mathlib.Omega.{arith}
 use lib.ListN.{length}
+use Rattle.std.specs.Prelude.{Ok, Err}
+use Rattle.std.proofs.lemmas.Result.{err_from_is_err_and}
 use Rattle.records.specs.Numbers.{with_record}
 use Rattle.meaning.specs.File.{readFILE}
 use Rattle.meaning.proofs.FileLaws.{length-read}
 use Rattle.meaning.specs.Store.{channel, channel_to}
-use Rattle.meaning.specs.Tables.{Tables, tables, store_of, put, put_all, channel_count, channel_record}
+use Rattle.meaning.specs.Tables.{Tables, tables, store_of, put, put_all, channel_record}
 use Rattle.meaning.specs.ChannelCalls.{read}
 use Rattle.meaning.specs.Result.{Result, done}
 use Rattle.meaning.specs.Run.{Call, result_of, meaning, accepts, answer_of, bytes_of, changes_of, Promise, refusal, accepted}
@@ -23,8 +25,6 @@ use Rattle.files.specs.FileLaws.{has_file}
 use Rattle.channels.specs.Held.{OnChannel, on_channel_of}
 use Rattle.channels.specs.HeldLaws.{refuses, holding, gives, channel_there, file_there, file_used, posn-within}
 use Rattle.channels.specs.Move.{moved_by}
-use Rattle.channels.specs.declared.Held.{Held}
-use Rattle.channels.specs.declared.Held.TheVariants.{Open, Refused}
 use Rattle.channels.proofs.read.Goals as goal
 
 abbrev rest : Tables → ℕ → ℕ → Result
@@ -37,61 +37,56 @@ on_channel_lem : (t : Tables) (c size : ℕ) → on_channel_of t c (rest t c siz
 unfolding result_of meaning accepts read on_channel_of
 on_channel_lem t c size = refl
 
-module _ (b br fr cr : List ℕ) (c : ℕ) (h : Held) (on : OnChannel (tables b br fr cr) c h) where
-  abbrev t : Tables
-  t = tables b br fr cr
-
-  refused_so : (buffer : List ℕ) (why : Report) → h ≡ Refused why
+module _ (t : Tables) (c : ℕ) where
+  refused_so : (buffer : List ℕ) (why : Report) → OnChannel t c (Err why)
       → Promise (Call.Read c (length buffer)) t buffer (record { answer = refusal 1 why; buffer = buffer; tables = t })
-  refused_so buffer why e =
-      kept_refusal (Call.Read c (length buffer)) t buffer why (refuses t c h on why e (rest t c (length buffer)) ∙ on_channel_lem t c (length buffer))
+  refused_so buffer why on =
+      kept_refusal (Call.Read c (length buffer)) t buffer why (refuses t c why on (rest t c (length buffer)) ∙ on_channel_lem t c (length buffer))
 
-  module _ (y : ChannelRecord) (e : h ≡ Open y) where
-    has : HasFile b br fr y.file.0
-    has =
-        let d = holding t c h on y e in
-        has_file t (sound_layout t d.ok) y.file.0 (file_there t c y d).0 (file_there t c y d).1
+  module _ (y : ChannelRecord) (on : OnChannel t c (Ok y)) where
+    has : HasFile t.blocks t.block_records t.file_records y.file.0
+    has = has_file t (sound_layout t (holding t c y on).ok) y.file.0 (file_there t c y on).0 (file_there t c y on).1
 
-    record_in : c < channel_count cr
-    record_in = channel_there t c y (holding t c h on y e)
-
-    module _ (buffer after : List ℕ) (n : ℕ) (reads : Reads b br fr y.file.0 y.position buffer after n) where
+    module _ (buffer after : List ℕ) (n : ℕ) (reads : Reads t.blocks t.block_records t.file_records y.file.0 y.position buffer after n) where
       near : y.position + n < 4294967296
       near =
-          let d = holding t c h on y e in
-          let u = file_used t c y d in
+          let u = file_used t c y on in
           omega (
             arith,
-            posn-within t c y d,
-            reads.counts cr,
+            posn-within t c y on,
+            reads.counts t.channel_records,
             length-read ((store_of t).file y.file.0).bytes y.position (length buffer),
-            file-size (store_of t) (sound_well t d.ok) y.file.0 u.some u.within,
+            file-size (store_of t) (sound_well t (holding t c y on).ok) y.file.0 u.some u.within,
           )
 
       gave : (next : ChannelRecord) → next ≡ moved_by y n
-          → (records : List ℕ) → records ≡ with_record 8 cr c (channel_record next.file.0 next.position)
-          → Promise (Call.Read c (length buffer)) t buffer (record { answer = accepted (n ∷ []); buffer = after; tables = tables b br fr records })
+          → (records : List ℕ) → records ≡ with_record 8 t.channel_records c (channel_record next.file.0 next.position)
+          → Promise (Call.Read c (length buffer)) t buffer
+          (record { answer = accepted (n ∷ []); buffer = after; tables = tables t.blocks t.block_records t.file_records records })
       unfolding answer_of bytes_of changes_of put_all put
       gave next moved records p =
-          let d = holding t c h on y e in
+          let d = holding t c y on in
           let out = readFILE ((store_of t).file y.file.0).bytes y.position (length buffer) in
           let result = done (n ∷ []) out (channel c (channel_to y.file.0 (y.position + n)) ∷ []) in
           let means : result ≡ result_of (Call.Read c (length buffer)) t =
-          rw (reads.counts cr, d.file, d.posn) (gives t c h on y e (rest t c (length buffer)) ∙ on_channel_lem t c (length buffer)) in
-          kept (Call.Read c (length buffer)) t buffer result means (record { answer = accepted (n ∷ []); buffer = after; tables = tables b br fr records })
-          refl (reads.fills cr) (ap (tables b br fr) (rw (p, moved)))
+          rw (reads.counts t.channel_records, d.file, d.posn) (gives t c y on (rest t c (length buffer)) ∙ on_channel_lem t c (length buffer)) in
+          kept (Call.Read c (length buffer)) t buffer result means
+          (record { answer = accepted (n ∷ []); buffer = after; tables = tables t.blocks t.block_records t.file_records records }) refl
+          (reads.fills t.channel_records) (ap (tables t.blocks t.block_records t.file_records) (rw (p, moved)))
+
+pub returns-in_err-channel : goal.returns-in_err-channel
+returns-in_err-channel c =
+    let p = err_from_is_err_and c.from_residual.result c.from_residual.ensures.1 in
+    rw (p.1, p.2) (refused_so _ _ _ _ c.in_err-channel.ensures)
 
 pub read_file-n-requires : goal.read_file-n-requires
-read_file-n-requires c = search has
+read_file-n-requires c = has _ _ _ c.in_ok-channel.ensures
 
 pub moved_by-next-requires : goal.moved_by-next-requires
-moved_by-next-requires c = search near
+moved_by-next-requires c = near _ _ _ c.in_ok-channel.ensures _ _ _ c.read_file-n.ensures
 
 pub put_channel_record-requires : goal.put_channel_record-requires
-put_channel_record-requires c = search record_in
+put_channel_record-requires c = channel_there _ _ _ c.in_ok-channel.ensures
 
-pub returns-in-Refused : goal.returns-in-Refused
-returns-in-Refused c = search refused_so
-
-pub returns-in-Open : goal.returns-in-Open
-returns-in-Open c = search gave
+pub returns : goal.returns
+returns c = gave _ _ _ c.in_ok-channel.ensures _ _ _ c.read_file-n.ensures _ c.moved_by-next.ensures _ c.put_channel_record.ensures

@@ -1,24 +1,7 @@
-use borrow.Author.Rules.{rules}
-use Rattle.directories.specs.FindLaws.{in_places, places-found, places-passed, places_none, run-held, run_inside}
+use Rattle.std.proofs.Common.{rules}
+use Rattle.directories.specs.Find.{blank_at}
+use Rattle.directories.specs.FindLaws.{blank_test}
 use Rattle.directories.proofs.find_blank.Goals as goal
 
-pub loop-k-init : goal.loop-k-init
-loop-k-init c = (search rules, search in_places)
-
-pub place_start-at-requires : goal.place_start-at-requires
-place_start-at-requires c = run-held _ _ _ _ _ c.requires (search rules)
-
-pub find_blank_in_run-j-requires : goal.find_blank_in_run-j-requires
-find_blank_in_run-j-requires c =
-    run_inside _ _ _ _ _ c.requires _ c.place_start-at.ensures (search rules) _ c.run_size-n.ensures
-
-pub returns-then-j-n : goal.returns-then-j-n
-returns-then-j-n c =
-    places-found _ _ _ _ _ c.loop-k.invariant.1 _ c.place_start-at.ensures (search rules) _ c.run_size-n.ensures _ c.find_blank_in_run-j.ensures (search rules)
-
-pub loop-k-preserved : goal.loop-k-preserved
-loop-k-preserved c =
-    (search rules, places-passed _ _ _ _ _ c.loop-k.invariant.1 _ c.place_start-at.ensures (search rules) _ c.run_size-n.ensures _ c.find_blank_in_run-j.ensures (search rules))
-
 pub returns : goal.returns
-returns c = places_none _ _ _ _ _ c.loop-k.invariant.1 (search rules)
+returns c = c.lowest_record.ensures (blank_at c.args.store.now.blocks.now) (λ at b inside post. blank_test _ _ _ (search rules))

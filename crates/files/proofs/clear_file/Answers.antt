@@ -28,4 +28,4 @@ has_cleared records files f kind depth some next next-files is is-files blocks c
     sym (put-tables (tables blocks records files channels) f (cleared kind depth) some ∙ (λ i. tables (b i) (r i) (sym is-files i) channels))
 
 pub returns : goal.returns
-returns c = λ blocks channels. search has_cleared
+returns c = has_cleared _ _ _ _ _ c.requires.from_one _ _ c.release_from.ensures c.put_file_record.ensures

@@ -1,10 +1,11 @@
 -- What the file has after the position lies in its places, and is what readFILE gives.
 use Prim.Native.Nat.{ℕ, ◌+◌, ◌-◌, ◌/◌, ◌≤◌, ◌<◌, min}
 use mathlib.Core.Path.{◌≡◌, sym, ap, ◌∙◌}
-use mathlib.Core.List.{List}
+use mathlib.Core.List.{List, ◌++◌}
 use native.Mathlib.Omega.{arith}
-use lib.ListN.{length}
-use Rattle.meaning.specs.File.{readFILE, over}
+use Rattle.std.proofs.Common.{length-take-le}
+use lib.ListN.{length, take, drop}
+use Rattle.meaning.specs.File.{readFILE}
 use Rattle.meaning.specs.Tables.{tables, store_of, length_at, file_length}
 use Rattle.tables.specs.StoreLaws.{file-length}
 use Rattle.layout.specs.Counting.{needs_within}
@@ -35,15 +36,23 @@ module _ (blocks records files : List ℕ) (f at : ℕ) (has : HasFile blocks re
       let e : min (length buffer) (file_length files f - at) ≡ n = omega (arith, file-size) in
       read-bytes (tables blocks records files channels) f has.from_one at (length buffer) ∙ ap (run_of blocks records f at) e
 
-  has_read : (after : List ℕ) → after ≡ over buffer (run_of blocks records f at n) → Reads blocks records files f at buffer after n
-  has_read after e =
+  -- the head of the buffer, which is filled
+  head : length (take n buffer) ≡ n
+  head = length-take-le n buffer (omega arith)
+
+  head_housed : Housed blocks records f at (length (take n buffer))
+  head_housed = rw head read_housed
+
+  has_read : (filled : List ℕ) → filled ≡ run_of blocks records f at (length (take n buffer)) → Reads blocks records files f at buffer (filled ++ drop n buffer) n
+  has_read filled e =
+      let is : filled ≡ run_of blocks records f at n = rw head at e in
       record {
         counts = λ channels. rw (as_read channels) (sym (length-run_of blocks records f at n));
-        fills = λ channels. rw (as_read channels) e;
+        fills = λ channels. rw (as_read channels, is, length-run_of);
       }
 
 pub read_run-requires : goal.read_run-requires
-read_run-requires c = record { housed = search read_housed; n_in_bounds = omega arith }
+read_run-requires c = search head_housed
 
 pub returns : goal.returns
 returns c = search has_read

@@ -22,30 +22,24 @@ taken blocks records files f at bytes can x read new is_new first is_first all i
 pub file_record-record-requires : goal.file_record-record-requires
 file_record-record-requires c = (search from_one, search to_last)
 
-pub places-first-requires : goal.places-first-requires
-places-first-requires c = let near : c.file_record-record.result.length ≤ 65536 = search old_near in omega arith
-
-pub places-requires : goal.places-requires
-places-requires c = let near : c.larger-new.result ≤ 65536 = search new_near in omega arith
-
 pub overflow_cast-first : goal.overflow_cast-first
 overflow_cast-first c = let near : c.file_record-record.result.length ≤ 65536 = search old_near in omega arith
 
 pub overflow_cast-more : goal.overflow_cast-more
-overflow_cast-more c = let near : c.larger-new.result ≤ 65536 = search new_near in omega arith
+overflow_cast-more c = let near : c.max-new.result ≤ 65536 = search new_near in omega arith
 
 pub take_blocks-requires : goal.take_blocks-requires
-take_blocks-requires c = let near : c.larger-new.result ≤ 65536 = search new_near in search rules
+take_blocks-requires c = let near : c.max-new.result ≤ 65536 = search new_near in search rules
 
 pub fill_gap-requires : goal.fill_gap-requires
-fill_gap-requires c = search (gap_housed _ _ _ _ _ _ _ _ _ (taken _ _ _ _ _ _ c.requires _ c.file_record-record.ensures _ c.larger-new.ensures _ c.places-first.ensures _ c.places.ensures _ c.take_blocks.ensures))
+fill_gap-requires c = search (gap_housed _ _ _ _ _ _ _ _ _ (taken _ _ _ _ _ _ c.requires _ c.file_record-record.ensures _ c.max-new.ensures _ c.places-first.ensures _ c.places.ensures _ c.take_blocks.ensures))
 
 pub lay_run-requires : goal.lay_run-requires
 lay_run-requires c =
-    search (data_housed _ _ _ _ _ _ _ _ _ (taken _ _ _ _ _ _ c.requires _ c.file_record-record.ensures _ c.larger-new.ensures _ c.places-first.ensures _ c.places.ensures _ c.take_blocks.ensures))
+    search (data_housed _ _ _ _ _ _ _ _ _ (taken _ _ _ _ _ _ c.requires _ c.file_record-record.ensures _ c.max-new.ensures _ c.places-first.ensures _ c.places.ensures _ c.take_blocks.ensures))
 
-pub overflow_cast-new : goal.overflow_cast-new
-overflow_cast-new c = let near : c.larger-new.result ≤ 65536 = search new_near in omega arith
+pub overflow_cast-record : goal.overflow_cast-record
+overflow_cast-record c = let near : c.max-new.result ≤ 65536 = search new_near in omega arith
 
 pub put_file_record-requires : goal.put_file_record-requires
 put_file_record-requires c = (search from_one, search to_last)
@@ -53,5 +47,5 @@ put_file_record-requires c = (search from_one, search to_last)
 pub returns : goal.returns
 returns c =
     let read = c.file_record-record.ensures in
-    wrote _ _ _ _ _ _ _ _ _ (taken _ _ _ _ _ _ c.requires _ c.file_record-record.ensures _ c.larger-new.ensures _ c.places-first.ensures _ c.places.ensures _ c.take_blocks.ensures) _ c.beyond.ensures _ c.fill_gap.ensures _ c.lay_run.ensures
+    wrote _ _ _ _ _ _ _ _ _ (taken _ _ _ _ _ _ c.requires _ c.file_record-record.ensures _ c.max-new.ensures _ c.places-first.ensures _ c.places.ensures _ c.take_blocks.ensures) _ c.saturating_sub.ensures _ c.fill_gap.ensures _ c.lay_run.ensures
     _ _ read.kind read.depth _ c.put_file_record.ensures

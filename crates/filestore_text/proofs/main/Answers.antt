@@ -1,6 +1,6 @@
 -- The four tables, prepared, are the store that the program starts with.
-use mathlib.Core.Path.{◌≡◌}
-use lib.ListN.{replicate}
+use Rattle.std.proofs.Common.{◌≡◌}
+use Rattle.std.specs.Prelude.{replicate}
 use Rattle.records.specs.Rows.{all_of}
 use Rattle.meaning.specs.Tables.{Tables, tables, put_all}
 use Rattle.meaning.specs.Sound.{lengths_agree}
@@ -17,5 +17,5 @@ store_at_start : (t : Tables) → t ≡ put_all lent (changes_of (result_of Prep
 unfolding all_of lengths_agree unless meaning accepts result_of changes_of put_all at_start
 store_at_start t prepared = prepared
 
-pub serve_input-requires-clause-channel_records_value : goal.serve_input-requires-clause-channel_records_value
-serve_input-requires-clause-channel_records_value c = search store_at_start
+pub serve_input-requires : goal.serve_input-requires
+serve_input-requires c = search store_at_start

@@ -1,56 +1,25 @@
-use Prim.Native.Nat.{ℕ, ◌≤◌}
-use mathlib.Core.Path.{◌≡◌, sym, ap, ◌∙◌}
-use mathlib.Core.List.{List, ◌++◌}
-use mathlib.Core.Bool.{Bool, false, true≢false}
-use native.Mathlib.Omega.{arith}
-use lib.ListN.{length, take}
-use Rattle.meaning.specs.Tables.{Tables}
-use Rattle.text.specs.Line.{longest_line}
-use Rattle.text.specs.Gathering.{part}
-use Rattle.text.specs.Cuts.{part_both, part_start}
-use Rattle.text.specs.declared.lines.Pending.{Pending}
-use Rattle.filestore_text.specs.Parts.{Steps, Hands, ServesPiece}
-use Rattle.filestore_text.specs.PartLaws.{hands_none, hands_behind}
-use borrow.Author.Rules.{rules}
+-- Each line is a step; where a write fails the piece is served up to there.
+use Rattle.std.proofs.Common.{◌≡◌, refl, ℕ, ◌+◌, ◌≤◌, List, [], length, arith}
+use Rattle.std.proofs.lemmas.Result.{err_from_is_err_and}
+use Rattle.filestore_text.proofs.Moving.{nothing_yet, step, hands_on, cut, whole_piece}
 use Rattle.filestore_text.proofs.serve_piece.Goals as goal
 
-more_of : (piece : List ℕ) (from to : ℕ) → from ≤ to → take to piece ≡ take from piece ++ part piece from to
-more_of piece from to h = sym (part_start piece to) ∙ part_both piece 0 from to (omega arith) h ∙ ap (λ bytes. bytes ++ part piece from to) (part_start piece from)
+room_at_first : (out : List ℕ) → out ≡ [] → length out + 4200 ≤ 65536
+room_at_first out e = rw e (omega arith)
 
-module _ (piece : List ℕ) (p₀ : Pending) (buffer₀ : List ℕ) (t₀ : Tables) (p : Pending) (buffer : List ℕ) (t : Tables) (from : ℕ)
-    (so_far : Hands (take from piece) p₀ buffer₀ t₀ p buffer t) where
-  onward : (out buffer' : List ℕ) (t' : Tables) (out' : List ℕ) (line : Pending) (end next : ℕ)
-      → Steps p piece from 0 buffer t out buffer' t' out' (record { line = line; from = end; at = next }) → Hands (take end piece) p₀ buffer₀ t₀ line buffer' t'
-  onward out buffer' t' out' line end next step =
-      let h : from ≤ end = omega (arith, step.moves) in
-      let more : Hands (part piece from end) p buffer t line buffer' t' = record { handed = take next out'; serves = step.serves } in
-      rw (more_of piece from end h) (hands_behind (take from piece) (part piece from end) p₀ buffer₀ t₀ p buffer t line buffer' t' so_far more)
+pub loop-next-init : goal.loop-next-init
+loop-next-init g c = record { room = room_at_first _ c.requires; so_far = nothing_yet _ _ _ _ _ c.requires }
 
-  module _ (holds : p.len ≤ longest_line) (within : from ≤ length piece) where
-    stopped : (going : Bool) → going ≡ false → ServesPiece piece p₀ buffer₀ t₀ buffer t (record { line = p; from = from; going = going })
-    stopped going e = record { holds = holds; within = within; whole = λ on. absurd (true≢false (sym on ∙ e)); hands = so_far }
+pub loop-next-preserved : goal.loop-next-preserved
+loop-next-preserved g c =
+    let served = step _ _ _ _ _ _ _ _ _ c.loop-next.invariant.so_far _ _ _ _ c.in-Some.ensures in
+    record { room = c.in_ok-make_room.ensures.room; so_far = hands_on _ _ _ _ _ _ _ _ _ served _ _ c.in_ok-make_room.ensures.hands }
 
-    whole_piece : (going : Bool) → length piece ≤ from → ServesPiece piece p₀ buffer₀ t₀ buffer t (record { line = p; from = from; going = going })
-    whole_piece going h = record { holds = holds; within = within; whole = λ on. omega arith; hands = so_far }
+pub returns-in_err-make_room-clause-serves : goal.returns-in_err-make_room-clause-serves
+returns-in_err-make_room-clause-serves g c =
+    let p = err_from_is_err_and c.from_residual.result c.from_residual.ensures.1 in
+    rw p.1 (cut _ _ _ _ _ _ _ _ _ (step _ _ _ _ _ _ _ _ _ c.loop-next.invariant.so_far _ _ _ _ c.in-Some.ensures) _ _)
 
-pub loop-going-init : goal.loop-going-init
-loop-going-init g c = (search rules, search rules, search rules, search rules, search rules, search rules, search rules, search rules, search hands_none)
-
-pub loop-going-preserved : goal.loop-going-preserved
-loop-going-preserved g c = (
-  search rules,
-  search rules,
-  search rules,
-  search rules,
-  search rules,
-  search rules,
-  search rules,
-  search rules,
-  onward _ _ _ _ _ _ _ _ c.loop-going.invariant.8 _ _ _ _ _ _ _ c.serve_and_write-turn.ensures,
-)
-
-pub returns-else-from-piece : goal.returns-else-from-piece
-returns-else-from-piece g c = whole_piece _ _ _ _ _ _ _ _ c.loop-going.invariant.8 (search rules) (search rules) _ (search rules)
-
-pub returns-after-loop-going : goal.returns-after-loop-going
-returns-after-loop-going g c = stopped _ _ _ _ _ _ _ _ c.loop-going.invariant.8 (search rules) (search rules) _ (search rules)
+pub returns-clause-serves : goal.returns-clause-serves
+returns-clause-serves g c =
+    whole_piece _ _ _ _ _ _ _ _ _ (step _ _ _ _ _ _ _ _ _ c.loop-next.invariant.so_far _ _ _ _ c.in_default.ensures) refl _ _ c.write_out.ensures.written

@@ -1,17 +1,16 @@
 -- Each return is a case of what rmdir gives on a well-written name, by the tests that led there.
-use Prim.Native.Nat.{ℕ, ◌/◌}
-use mathlib.Core.Path.{◌≡◌, refl, sym, ap, ◌∙◌}
-use mathlib.Core.Logic.{◌≢◌}
-use mathlib.Core.List.{List, [], ◌∷◌}
-use mathlib.Core.Bool.{Bool, true, false, not, ◌||◌}
-use borrow.Author.Tests.{eq-eqb, ne_eqb, not-true, not-false}
-use lib.Dec.{ltb, eqb}
+use Rattle.std.specs.Prelude.{ℕ, ◌/◌, ◌≡◌, ◌≢◌, refl, List, [], ◌∷◌, Bool, true, false, not, ◌||◌, ltb, eqb, Ok, Err}
+use Rattle.std.proofs.Common.{rules, sym, ap, ◌∙◌, eq-eqb, true≢false}
+use Rattle.std.proofs.lemmas.Result.{err_from_is_err_and}
+use borrow.Author.Tests.{not-true, not-false}
 use Rattle.meaning.specs.Name.{name_count, is_empty}
 use Rattle.meaning.specs.Store.{Store, file, no_file, root, is_directory, named, held}
 use Rattle.meaning.specs.Tables.{Tables, tables, store_of, file_length}
 use Rattle.meaning.specs.NameCalls.{parent, record_for, unnaming, rmdir}
-use Rattle.meaning.specs.Result.{Result, done, unless, missing}
+use Rattle.meaning.specs.Result.{Result, refused, done, unless, missing}
 use Rattle.meaning.specs.Run.{Call, result_of, meaning, accepts}
+use Rattle.meaning.specs.Decisions.{refusing, planning}
+use Rattle.meaning.specs.declared.FileNo.{FileNo}
 use Rattle.meaning.specs.declared.Report.{Report}
 use Rattle.meaning.specs.declared.Report.TheVariants.{NoSuchName, NotDirectory, InUse, NotEmpty}
 use Rattle.tables.specs.Searches.{channels_with}
@@ -19,18 +18,17 @@ use Rattle.tables.specs.StoreLaws.{held-channels}
 use Rattle.soundness.specs.Seen.{files_store}
 use Rattle.directories.specs.Find.{Lies}
 use Rattle.lookup.specs.Filed.{filed}
-use Rattle.naming.specs.Judged.{OnName, on_name_of, refuses}
-use Rattle.naming.specs.Located.{Locates, InPlace, Recorded}
-use Rattle.naming.specs.At.{At, located_shelves, located_counted, located_at, follows, is_missing, not_missing, file-directory}
-use Rattle.naming.specs.InStore.{found_record, located_in_place}
-use Rattle.naming.specs.declared.Judged.{Judged}
-use Rattle.naming.specs.declared.Judged.TheVariants.{Syllables, Refused}
+use Rattle.naming.specs.Judged.{Judged, OnName, on_name_of, refuses}
+use Rattle.naming.specs.Located.{Locates, OldIn, Recorded}
+use Rattle.naming.specs.At.{At, located_shelves, located_counted, located_at, follows, not_old, not_missing, stands_for, file-directory}
+use Rattle.naming.specs.InStore.{found_record, located_old}
 use Rattle.naming.specs.declared.Located.{Located}
+use Rattle.naming.specs.declared.Located.TheVariants.{Old}
 use Rattle.listing.specs.Names.{place_count}
 use Rattle.listing.specs.Listed.{listed_lies, listed_count}
-use Rattle.folders.specs.Remove.{Removed}
+use Rattle.folders.specs.Remove.{Removed, Fits, planned}
 use Rattle.folders.specs.RemoveLaws.{no_names_empty, names_not_empty, deep, in_directory_lem, planned_is, can}
-use Rattle.folders.specs.declared.Removing.TheVariants.{Of, No}
+use Rattle.folders.proofs.decide_rmdir.Goals.{then-eq-via-then-eq, then-eq-via-else-eq+then-is_held}
 use Rattle.folders.proofs.decide_rmdir.Goals as goal
 
 abbrev rest : Tables → List (List ℕ) → Result
@@ -43,146 +41,171 @@ rest t name =
     (unless (not (is_empty (s.file f).bytes)) NotEmpty
     (done [] [] (file (parent s name) (unnaming s name) ∷ file f no_file ∷ [])))))
 
-on_name_lem : (t : Tables) (bytes : List ℕ) → on_name_of t bytes (rest t) ≡ result_of (Call.Rmdir bytes) t
-unfolding result_of meaning accepts rmdir on_name_of
-on_name_lem t bytes = refl
+module _ (t : Tables) (bytes : List ℕ) where
+  abbrev call : Result
+  call = result_of (Call.Rmdir bytes) t
 
-refusal : (t : Tables) (bytes : List ℕ) (h : Judged) → OnName t bytes h → (why : Report) → h ≡ Refused why → Removed t bytes (No why)
-refusal t bytes h on why e = record { means = refuses t bytes h on why e (rest t) ∙ on_name_lem t bytes; inside = tt }
+  on_name_lem : on_name_of t bytes (rest t) ≡ call
+  unfolding result_of meaning accepts rmdir on_name_of
+  on_name_lem = refl
 
-module _ (t : Tables) (bytes : List ℕ) (k : ℕ) (x : Located) (a : At t bytes k x) where
-  abbrev s : Store
-  s = store_of t
+  refused_by : (why : Report) → refused why ≡ call → Removed t bytes (Err why)
+  refused_by = refusing (planned t) (Fits t) call
 
-  given : rest t a.name ≡ result_of (Call.Rmdir bytes) t
-  given = follows t bytes k x a (rest t) ∙ on_name_lem t bytes
+  refusal : (h : Judged) → OnName t bytes h → (why : Report) → h ≡ Err why → Removed t bytes (Err why)
+  refusal h on why e = refused_by why (refuses t bytes h on why e (rest t) ∙ on_name_lem)
 
-  no_name : x.file.0 ≡ 0 → Removed t bytes (No NoSuchName)
-  unfolding unless
-  no_name e = record { means = rw (is_missing t bytes k x a e) at given; inside = tt }
+  module _ (k : ℕ) (x : Located) (a : At t bytes k x) where
+    abbrev s : Store
+    s = store_of t
 
-  module _ (some : x.file.0 ≢ 0) (v : Bool) (seen : v ≡ is_directory (files_store t.file_records) x.file.0) where
-    no_directory : v ≡ false → Removed t bytes (No NotDirectory)
+    given : rest t a.name ≡ call
+    given = follows t bytes k x a (rest t) ∙ on_name_lem
+
+    no_name : ((d f : FileNo) → x ≢ Old d f) → Removed t bytes (Err NoSuchName)
     unfolding unless
-    no_directory e = record { means = rw (not_missing t bytes k x a some, file-directory t bytes k x a v seen, e) at given; inside = tt }
+    no_name other = refused_by NoSuchName (rw (not_old t bytes k x a other) at given)
 
-    module _ (is : v ≡ true) where
-      its_root : x.file.0 ≡ 1 → Removed t bytes (No InUse)
+    module _ (d f : FileNo) (old : x ≡ Old d f) (v : Bool) (seen : v ≡ is_directory (files_store t.file_records) f.0) where
+      stands : f.0 ≡ named s a.name
+      stands = stands_for t bytes k x a d f old
+
+      no_directory : v ≡ false → Removed t bytes (Err NotDirectory)
       unfolding unless
-      its_root e =
-          let one : eqb (named s a.name) root ≡ true = eq-eqb (named s a.name) root (sym a.stands ∙ e) in
-          record { means = rw (not_missing t bytes k x a some, file-directory t bytes k x a v seen, is, one) at given; inside = tt }
+      no_directory e = refused_by NotDirectory (rw (not_missing t bytes k x a d f old, file-directory t bytes k x a d f old v seen, e) at given)
 
-      module _ (not-one : x.file.0 ≢ 1) (u : Bool) (holds : u ≡ ltb 0 (channels_with t.channel_records x.file.0)) where
-        not_root : eqb (named s a.name) root ≡ false
-        not_root = ne_eqb (named s a.name) root (λ e. not-one (a.stands ∙ e))
+      module _ (is : v ≡ true) (one : Bool) (tested : one ≡ eqb f.0 1) where
+        directory : is_directory s f.0 ≡ true
+        directory = ap (is_directory s) stands ∙ file-directory t bytes k x a d f old v seen ∙ is
 
-        held_is : held s (named s a.name) ≡ u
-        held_is = ap (held s) (sym a.stands) ∙ held-channels t x.file.0 ∙ sym holds
+        root_is : eqb (named s a.name) root ≡ one
+        root_is = ap (λ (n : ℕ). eqb n root) (sym stands) ∙ sym tested
 
-        is_in_use : u ≡ true → Removed t bytes (No InUse)
+        its_root : one ≡ true → Removed t bytes (Err InUse)
         unfolding unless
-        is_in_use e =
-            record { means = rw (not_missing t bytes k x a some, file-directory t bytes k x a v seen, is, not_root, held_is, e) at given; inside = tt }
+        its_root e = refused_by InUse (rw (not_missing t bytes k x a d f old, file-directory t bytes k x a d f old v seen, is, root_is, e) at given)
 
-        module _ (free : u ≡ false) (count : ℕ) (counted : count ≡ file_length t.file_records x.file.0 / 16)
-            (names : ℕ) (has : names ≡ place_count t.blocks t.block_records x.file.0 count) where
-          abbrev dir : List ℕ
-          dir = (s.file (named s a.name)).bytes
+        module _ (other : one ≡ false) (u : Bool) (holds : u ≡ ltb 0 (channels_with t.channel_records f.0)) where
+          not-one : f.0 ≢ 1
+          not-one e = let z : true ≡ false = sym (eq-eqb f.0 1 e) ∙ sym tested ∙ other in true≢false z
 
-          directory : is_directory s x.file.0 ≡ true
-          directory = ap (is_directory s) a.stands ∙ file-directory t bytes k x a v seen ∙ is
+          held_is : held s (named s a.name) ≡ u
+          held_is = ap (held s) (sym stands) ∙ held-channels t f.0 ∙ sym holds
 
-          name-count : name_count dir ≡ names
-          name-count = ap (λ (f : ℕ). name_count (s.file f).bytes) (sym a.stands) ∙ sym (has ∙ listed_count t a.ok x.file.0 directory count counted)
-
-          not_empty : names ≢ 0 → Removed t bytes (No NotEmpty)
+          is_in_use : u ≡ true → Removed t bytes (Err InUse)
           unfolding unless
-          not_empty d =
-              let full : is_empty dir ≡ false = names_not_empty dir (λ e. d (sym name-count ∙ e)) in
-              record {
-                means = rw (not_missing t bytes k x a some, file-directory t bytes k x a v seen, is, not_root, held_is, free, full) at given;
-                inside = tt;
-              }
+          is_in_use e =
+              refused_by InUse (rw (not_missing t bytes k x a d f old, file-directory t bytes k x a d f old v seen, is, root_is, other, held_is, e) at given)
 
-          removes : names ≡ 0 → (i : ℕ) → i ≡ record_for s a.name → Removed t bytes (Of x.parent i x.file)
-          unfolding unless
-          removes none i found =
-              let empty : is_empty dir ≡ true = no_names_empty dir (name-count ∙ none) in
-              let result : done [] [] (file (parent s a.name) (unnaming s a.name) ∷ file (named s a.name) no_file ∷ []) ≡ result_of (Call.Rmdir bytes) t =
-              rw (not_missing t bytes k x a some, file-directory t bytes k x a v seen, is, not_root, held_is, free, empty) at given in
-              let means = planned_is t bytes k x a some not-one i found ∙ result in
-              record { means = means; inside = can t bytes k x a some not-one i found means }
+          module _ (free : u ≡ false) (count : ℕ) (counted : count ≡ file_length t.file_records f.0 / 16)
+              (names : ℕ) (has : names ≡ place_count t.blocks t.block_records f.0 count) where
+            abbrev dir : List ℕ
+            dir = (s.file (named s a.name)).bytes
+
+            name-count : name_count dir ≡ names
+            name-count = ap (λ (f : ℕ). name_count (s.file f).bytes) (sym stands) ∙ sym (has ∙ listed_count t a.ok f.0 directory count counted)
+
+            not_empty : names ≢ 0 → Removed t bytes (Err NotEmpty)
+            unfolding unless
+            not_empty some =
+                let full : is_empty dir ≡ false = names_not_empty dir (λ e. some (sym name-count ∙ e)) in
+                refused_by NotEmpty
+                (rw (not_missing t bytes k x a d f old, file-directory t bytes k x a d f old v seen, is, root_is, other, held_is, free, full) at given)
+
+            removes : names ≡ 0 → (i : ℕ) → i ≡ record_for s a.name → Removed t bytes (Ok (d, i, f))
+            unfolding unless
+            removes none i found =
+                let empty : is_empty dir ≡ true = no_names_empty dir (name-count ∙ none) in
+                let result : done [] [] (file (parent s a.name) (unnaming s a.name) ∷ file (named s a.name) no_file ∷ []) ≡ call =
+                rw (not_missing t bytes k x a d f old, file-directory t bytes k x a d f old v seen, is, root_is, other, held_is, free, empty) at given in
+                let means = planned_is t bytes k x a d f old not-one i found ∙ result in
+                planning (planned t) (Fits t) call (d, i, f) means (can t bytes k x a d f old not-one i found means)
 
 -- the same, over what the code has at hand
-module _ (b br fr cr bytes : List ℕ) (h : Judged) (on : OnName (tables b br fr cr) bytes h) (k : ℕ) (e : h ≡ Syllables k) (x : Located) (l : Locates (filed b br fr) bytes x) where
+module _ (b br fr cr bytes : List ℕ) (h : Judged) (on : OnName (tables b br fr cr) bytes h) (k : ℕ) (e : h ≡ Ok k) (x : Located) (l : Locates (filed b br fr) bytes x) where
   abbrev t : Tables
   t = tables b br fr cr
 
   at : At t bytes k x
   at = located_at b br fr cr bytes h on k e x l
 
-  missing_so : x.file.0 ≡ 0 → Removed t bytes (No NoSuchName)
-  missing_so = no_name t bytes k x at
+  nothing_so : ((d f : FileNo) → x ≢ Old d f) → Removed t bytes (Err NoSuchName)
+  nothing_so = no_name t bytes k x at
 
-  in_place : x.file.0 ≢ 0 → x.file.0 ≢ 1 → InPlace b br fr bytes x
-  in_place some not-one = located_in_place b br fr cr bytes h on k e x l (deep t bytes k x at some not-one) (in_directory_lem t bytes k x at some not-one)
-
-  module _ (some : x.file.0 ≢ 0) (v : Bool) (seen : v ≡ is_directory (files_store fr) x.file.0) where
-    plain_so : not v ≡ true → Removed t bytes (No NotDirectory)
-    plain_so n = no_directory t bytes k x at some v seen (not-true v n)
+  module _ (d f : FileNo) (old : x ≡ Old d f) (v : Bool) (seen : v ≡ is_directory (files_store fr) f.0) where
+    plain_so : not v ≡ true → Removed t bytes (Err NotDirectory)
+    plain_so n = no_directory t bytes k x at d f old v seen (not-true v n)
 
     module _ (n : not v ≡ false) where
-      root_so : x.file.0 ≡ 1 → Removed t bytes (No InUse)
-      root_so = its_root t bytes k x at some v seen (not-false v n)
+      lies_so : (count : ℕ) → count ≡ file_length fr f.0 / 16 → Lies b br f.0 count
+      lies_so count counted = listed_lies t at.ok f.0 (directory t bytes k x at d f old v seen (not-false v n) _ refl) count counted
 
-      lies_so : (count : ℕ) → count ≡ file_length fr x.file.0 / 16 → Lies b br x.file.0 count
-      lies_so count counted =
-          listed_lies t at.ok x.file.0 (ap (is_directory (store_of t)) at.stands ∙ file-directory t bytes k x at v seen ∙ not-false v n) count counted
+      module _ (one : Bool) (tested : one ≡ eqb f.0 1) where
+        root_so : one ≡ true → Removed t bytes (Err InUse)
+        root_so = its_root t bytes k x at d f old v seen (not-false v n) one tested
 
-      module _ (not-one : x.file.0 ≢ 1) (u : Bool) (holds : u ≡ ltb 0 (channels_with cr x.file.0)) where
-        held_so : u ≡ true → Removed t bytes (No InUse)
-        held_so = is_in_use t bytes k x at some v seen (not-false v n) not-one u holds
+        module _ (other : one ≡ false) (u : Bool) (holds : u ≡ ltb 0 (channels_with cr f.0)) where
+          held_so : u ≡ true → Removed t bytes (Err InUse)
+          held_so = is_in_use t bytes k x at d f old v seen (not-false v n) one tested other u holds
 
-        module _ (free : u ≡ false) (count : ℕ) (counted : count ≡ file_length fr x.file.0 / 16)
-            (names : ℕ) (has : names ≡ place_count b br x.file.0 count) where
-          full_so : names ≢ 0 → Removed t bytes (No NotEmpty)
-          full_so = not_empty t bytes k x at some v seen (not-false v n) not-one u holds free count counted names has
+          place_so : OldIn b br fr bytes d.0
+          place_so =
+              let apart = not-one t bytes k x at d f old v seen (not-false v n) one tested other u holds in
+              located_old b br fr cr bytes h on k e x l (deep t bytes k x at d f old apart) d f old (in_directory_lem t bytes k x at d f old apart)
 
-          removes_so : names ≡ 0 → (i : ℕ) → Recorded (filed b br fr) bytes i → Removed t bytes (Of x.parent i x.file)
-          removes_so none i r =
-              removes t bytes k x at some v seen (not-false v n) not-one u holds free count counted names has none i (found_record b br fr cr bytes k x at i r)
+          module _ (free : u ≡ false) (count : ℕ) (counted : count ≡ file_length fr f.0 / 16)
+              (names : ℕ) (has : names ≡ place_count b br f.0 count) where
+            full_so : names ≢ 0 → Removed t bytes (Err NotEmpty)
+            full_so = not_empty t bytes k x at d f old v seen (not-false v n) one tested other u holds free count counted names has
 
-pub locate-at-requires : goal.locate-at-requires
-locate-at-requires c = record { shelves = search located_shelves; k_counted = search located_counted }
+            removes_so : names ≡ 0 → (i : ℕ) → Recorded (filed b br fr) bytes i → Removed t bytes (Ok (d, i, f))
+            removes_so none i r =
+                removes t bytes k x at d f old v seen (not-false v n) one tested other u holds free count counted names has none i (found_record b br fr cr bytes k x at i r)
 
-pub returns-then-f-eq0 : goal.returns-then-f-eq0
-returns-then-f-eq0 c = search missing_so
+pub returns-in_err-k : goal.returns-in_err-k
+returns-in_err-k c =
+    let p = err_from_is_err_and c.from_residual.result c.from_residual.ensures.1 in
+    rw (p.1, p.2) (refusal _ _ _ c.judge_name.ensures _ c.in_err-k.was)
+
+pub locate-requires : goal.locate-requires
+locate-requires c =
+    record {
+      shelves = located_shelves _ _ _ _ _ _ c.judge_name.ensures _ c.in_ok-k.was;
+      k_counted = located_counted _ _ _ _ _ _ c.judge_name.ensures _ c.in_ok-k.was;
+    }
+
+pub returns-in_default : goal.returns-in_default
+returns-in_default c = nothing_so _ _ _ _ _ _ c.judge_name.ensures _ c.in_ok-k.was _ c.locate.ensures c.in_default.not-Old
 
 pub returns-then-not-is_directory : goal.returns-then-not-is_directory
-returns-then-not-is_directory c = search plain_so
+returns-then-not-is_directory c =
+    plain_so _ _ _ _ _ _ c.judge_name.ensures _ c.in_ok-k.was _ c.locate.ensures _ _ c.in-Old.is _ c.is_directory.ensures (ap not c.if-not-is_directory.true)
 
-pub returns-then-f-eq1 : goal.returns-then-f-eq1
-returns-then-f-eq1 c = search root_so
-
-pub returns-then-is_held : goal.returns-then-is_held
-returns-then-is_held c = search held_so
+pub returns-then-eq : goal.returns-then-eq
+returns-then-eq c =
+    elim c.then-eq.branch [
+      | then-eq-via-then-eq w ↦ root_so _ _ _ _ _ _ c.judge_name.ensures _ c.in_ok-k.was _ c.locate.ensures _ _ c.in-Old.is _ c.is_directory.ensures (ap not c.if-not-is_directory.false) _ c.eq.ensures w.if-eq.true
+      | then-eq-via-else-eq+then-is_held w ↦ held_so _ _ _ _ _ _ c.judge_name.ensures _ c.in_ok-k.was _ c.locate.ensures _ _ c.in-Old.is _ c.is_directory.ensures (ap not c.if-not-is_directory.false) _ c.eq.ensures w.if-eq.false _ w.is_held.ensures w.if-is_held.true
+    ]
 
 pub record_count-count-requires : goal.record_count-count-requires
-record_count-count-requires c =
-    sym c.is_directory.ensures ∙ not-false _ (ap not c.if-not-is_directory.false)
+record_count-count-requires c = sym c.is_directory.ensures ∙ not-false _ (ap not c.if-not-is_directory.false)
 
 pub count_names-requires : goal.count_names-requires
-count_names-requires c = search lies_so
+count_names-requires c =
+    lies_so _ _ _ c.args.store.now.channel_records.now _ _ c.judge_name.ensures _ c.in_ok-k.was _ c.locate.ensures _ _ c.in-Old.is _ c.is_directory.ensures (ap not c.if-not-is_directory.false) _ c.record_count-count.ensures
 
 pub returns-then-count_names-ne0 : goal.returns-then-count_names-ne0
-returns-then-count_names-ne0 c = search full_so
+returns-then-count_names-ne0 c =
+    full_so _ _ _ _ _ _ c.judge_name.ensures _ c.in_ok-k.was _ c.locate.ensures _ _ c.in-Old.is _ c.is_directory.ensures (ap not c.if-not-is_directory.false) _ c.eq.ensures c.if-eq.false
+    _ c.is_held.ensures c.if-is_held.false _ c.record_count-count.ensures _ c.count_names.ensures (search rules)
 
-pub record_for-i-requires : goal.record_for-i-requires
-record_for-i-requires c = search in_place
+pub own_record-i-requires : goal.own_record-i-requires
+own_record-i-requires c =
+    place_so _ _ _ _ _ _ c.judge_name.ensures _ c.in_ok-k.was _ c.locate.ensures _ _ c.in-Old.is _ c.is_directory.ensures (ap not c.if-not-is_directory.false) _ c.eq.ensures c.if-eq.false
+    _ c.is_held.ensures
 
-pub returns-in-Refused : goal.returns-in-Refused
-returns-in-Refused c = search refusal
-
-pub returns-else-count_names-ne0 : goal.returns-else-count_names-ne0
-returns-else-count_names-ne0 c = search removes_so
+pub returns : goal.returns
+returns c =
+    removes_so _ _ _ _ _ _ c.judge_name.ensures _ c.in_ok-k.was _ c.locate.ensures _ _ c.in-Old.is _ c.is_directory.ensures (ap not c.if-not-is_directory.false) _ c.eq.ensures c.if-eq.false
+    _ c.is_held.ensures c.if-is_held.false _ c.record_count-count.ensures _ c.count_names.ensures (search rules) _ c.own_record-i.ensures

@@ -1,43 +1,42 @@
 -- Each return is a case of what link gives on two well-written names, by the tests that led there.
-use Rattle.linking.specs.LinkLaws.{no_names, no_old, old-directory, new-nowhere, new-directory, is_sound, in_place, here_directory, few-records, replaced_few, no_fit, accepted}
+use Rattle.std.proofs.lemmas.Result.{err_from_is_err_and}
+use Rattle.linking.specs.LinkLaws.{no_names, no_old, old-directory, no_new, here_directory, few-records, no_fit, accepted}
 use Rattle.linking.proofs.decide_link.Goals as goal
 
-pub returns-then-f-eq0 : goal.returns-then-f-eq0
-returns-then-f-eq0 c = search no_old
+pub returns-in_err-from : goal.returns-in_err-from
+returns-in_err-from c =
+    let p = err_from_is_err_and c.from_residual.result c.from_residual.ensures.1 in
+    rw (p.1, p.2) (no_names _ _ _ _ _ _ _ c.in_err-from.ensures)
+
+pub returns-in_default : goal.returns-in_default
+returns-in_default c = no_old _ _ _ _ _ _ _ _ c.in_ok-from.ensures c.in_default.not-Old
 
 pub returns-then-is_directory : goal.returns-then-is_directory
-returns-then-is_directory c = search old-directory
+returns-then-is_directory c =
+    old-directory _ _ _ _ _ _ _ _ c.in_ok-from.ensures _ _ c.in-Old.is _ c.is_directory.ensures c.if-is_directory.true
 
-pub returns-then-is_nowhere : goal.returns-then-is_nowhere
-returns-then-is_nowhere c = search new-nowhere
+pub returns-in_err-to : goal.returns-in_err-to
+returns-in_err-to c =
+    let p = err_from_is_err_and c.from_residual-in_err-to.result c.from_residual-in_err-to.ensures.1 in
+    rw (p.1, p.2)
+    (no_new _ _ _ _ _ _ _ _ c.in_ok-from.ensures _ _ c.in-Old.is _ c.is_directory.ensures c.if-is_directory.false _ c.in_err-to.ensures)
 
-pub returns-then-is_directory-2 : goal.returns-then-is_directory-2
-returns-then-is_directory-2 c = search new-directory
+pub record_fits-requires-clause-d_is_directory : goal.record_fits-requires-clause-d_is_directory
+record_fits-requires-clause-d_is_directory c =
+    here_directory _ _ _ _ _ _ _ _ c.in_ok-from.ensures _ _ c.in-Old.is _ c.is_directory.ensures c.if-is_directory.false _ _ _ c.in_ok-to.ensures
 
-pub record_for-place-requires : goal.record_for-place-requires
-record_for-place-requires c = search (in_place _ _ _ _ _ _ _ c.find_names-names.ensures)
+pub record_fits-requires-clause-length_in_bounds : goal.record_fits-requires-clause-length_in_bounds
+record_fits-requires-clause-length_in_bounds c =
+    few-records _ _ _ _ _ _ _ _ c.in_ok-from.ensures _ _ c.in-Old.is _ c.is_directory.ensures c.if-is_directory.false _ _ _ c.in_ok-to.ensures
 
-pub record_fits-fit-requires : goal.record_fits-fit-requires
-record_fits-fit-requires c =
-    record {
-      d_is_directory = search (here_directory _ _ _ _ _ _ _ c.find_names-names.ensures);
-      length_in_bounds = few-records _ _ _ _ _ _ _ c.find_names-names.ensures _ _ c.in-Found.is c.if-f-eq0.false _ c.is_directory.ensures
-          c.if-is_directory.false _ c.is_nowhere.ensures c.if-is_nowhere.false _ c.is_directory-in-Found.ensures c.if-is_directory-2.false _ c.record_for-place.ensures;
-    }
+pub returns-in_err-record_fits : goal.returns-in_err-record_fits
+returns-in_err-record_fits c =
+    let p = err_from_is_err_and c.from_residual-in_err-record_fits.result c.from_residual-in_err-record_fits.ensures.1 in
+    rw (p.1, p.2)
+    (no_fit _ _ _ _ _ _ _ _ c.in_ok-from.ensures _ _ c.in-Old.is _ c.is_directory.ensures c.if-is_directory.false _ _ _ c.in_ok-to.ensures
+    _ c.in_err-record_fits.ensures)
 
-pub is_lone-lone-requires : goal.is_lone-lone-requires
-is_lone-lone-requires c =
-    let names = c.find_names-names.ensures in
-    record { sound_store = search (is_sound _ _ _ _ _ _ _ names); g_in_bounds = search (replaced_few _ _ _ _ _ _ _ names) }
-
-pub returns-in-Refused : goal.returns-in-Refused
-returns-in-Refused c = search no_names
-
-pub returns-in-No : goal.returns-in-No
-returns-in-No c = search no_fit
-
-pub returns-in-Fits : goal.returns-in-Fits
-returns-in-Fits c =
-    accepted _ _ _ _ _ _ _ c.find_names-names.ensures _ _ c.in-Found.is c.if-f-eq0.false _ c.is_directory.ensures
-    c.if-is_directory.false _ c.is_nowhere.ensures c.if-is_nowhere.false _ c.is_directory-in-Found.ensures c.if-is_directory-2.false _ c.record_for-place.ensures
-    c.record_fits-fit.result c.record_fits-fit.ensures c.in-Fits.is _ c.is_lone-lone.ensures
+pub returns : goal.returns
+returns c =
+    accepted _ _ _ _ _ _ _ _ c.in_ok-from.ensures _ _ c.in-Old.is _ c.is_directory.ensures c.if-is_directory.false _ _ _ c.in_ok-to.ensures
+    _ c.in_ok-record_fits.ensures

@@ -1,7 +1,7 @@
 -- The old name is judged first, and the new one where that is well written; then both are located.
-use Prim.Native.Nat.{ℕ}
-use mathlib.Core.Path.{◌≡◌, sym, ◌∙◌}
-use mathlib.Core.List.{List}
+use Rattle.std.specs.Prelude.{ℕ, ◌≡◌, List, Option, Some, None, Err}
+use Rattle.std.proofs.Common.{sym, ◌∙◌}
+use Rattle.std.proofs.lemmas.Result.{err_from_is_err_and}
 use Rattle.meaning.specs.Name.{syllables}
 use Rattle.meaning.specs.Tables.{tables}
 use Rattle.meaning.specs.Result.{unless, with_syllables, on_name}
@@ -9,59 +9,62 @@ use Rattle.meaning.specs.declared.Report.{Report}
 use Rattle.meaning.specs.declared.Report.TheVariants.{BadName}
 use Rattle.names.specs.FormLaws.{Counted, form-counted, form_none}
 use Rattle.names.specs.Syllables.{form_of}
-use Rattle.names.specs.declared.NameForm.{NameForm}
-use Rattle.names.specs.declared.NameForm.TheVariants as Form
-use Rattle.lookup.specs.Filed.{filed}
-use Rattle.naming.specs.Judged.{OnName, on_name_of, Spelled, refuses, spelled}
+use Rattle.lookup.specs.Filed.{filed, Shelves}
+use Rattle.naming.specs.Judged.{OnName, on_name_of, Spelled}
 use Rattle.naming.specs.Located.{Locates}
-use Rattle.naming.specs.At.{stands_at, located_shelves, located_counted, located_at}
-use Rattle.naming.specs.declared.Judged.{Judged}
-use Rattle.naming.specs.declared.Judged.TheVariants as J
+use Rattle.naming.specs.At.{judged_shelves, stands_at}
 use Rattle.naming.specs.declared.Located.{Located}
-use Rattle.linking.specs.Names.{on_names, FindsNames}
-use Rattle.linking.specs.declared.Names.TheVariants.{Found, Refused}
+use Rattle.placing.specs.Free.{reports}
+use Rattle.linking.specs.Names.{on_names, Here, Both, FindsNames}
 use Rattle.linking.proofs.find_names.Goals as goal
 
-module _ (b br fr cr old new : List ℕ) (h : Judged) (on : OnName (tables b br fr cr) old h) where
-  old_refused : (why : Report) → h ≡ J.Refused why → FindsNames (tables b br fr cr) old new (Refused why)
+module _ (b br fr cr old new : List ℕ) where
+  old_refused : (why : Report) → OnName (tables b br fr cr) old (Err why) → FindsNames (tables b br fr cr) old new (Err why)
   unfolding on_names on_name_of
-  old_refused why e = record { case = λ rest. refuses (tables b br fr cr) old h on why e (λ from. on_name new λ to. rest from to) }
+  old_refused why on rest = on (λ from. on_name new λ to. rest from to)
 
-  module _ (j : ℕ) (e : h ≡ J.Syllables j) (form : NameForm) (formed : form ≡ form_of (syllables new)) where
-    new_bad : form ≡ Form.Bad → FindsNames (tables b br fr cr) old new (Refused BadName)
+  module _ (j : ℕ) (s : Spelled (tables b br fr cr) old j) (form : Option ℕ) (formed : form ≡ form_of (syllables new)) where
+    new_bad : form ≡ None → FindsNames (tables b br fr cr) old new (Err BadName)
     unfolding on_names unless with_syllables
-    new_bad bad =
-        let s = spelled (tables b br fr cr) old h on j e in
+    new_bad bad rest =
         let none_so = form_none (syllables new) (sym bad ∙ formed) in
-        record { case = λ rest. rw (s.ok, s.counted.is, none_so) }
+        rw (s.ok, s.counted.is, none_so)
 
-    module _ (k : ℕ) (is : form ≡ Form.Syllables k) where
+    old_shelves : Shelves b br fr
+    old_shelves = judged_shelves b br fr cr old j s
+
+    module _ (k : ℕ) (is : form ≡ Some k) where
       new_spelled : Spelled (tables b br fr cr) new k
-      new_spelled = record { ok = (spelled (tables b br fr cr) old h on j e).ok; counted = form-counted (syllables new) k (sym is ∙ formed) }
+      new_spelled = record { ok = s.ok; counted = form-counted (syllables new) k (sym is ∙ formed) }
 
       new-counted : Counted (syllables new) k
       new-counted = new_spelled.counted
 
-      found : (x : Located) → Locates (filed b br fr) old x → (y : Located) → Locates (filed b br fr) new y → FindsNames (tables b br fr cr) old new (Found x y)
-      found x lx y ly =
-          record {
-            case = record {
-              old-name = record { k = j; counted = located_counted b br fr cr old h on j e; located = lx; at = located_at b br fr cr old h on j e x lx };
-              new-name = record { k = k; counted = new-counted; located = ly; at = stands_at b br fr cr new k new_spelled y ly };
-            };
-          }
+      here : (bytes : List ℕ) (m : ℕ) → Spelled (tables b br fr cr) bytes m → (x : Located) → Locates (filed b br fr) bytes x → Here (tables b br fr cr) bytes x
+      here bytes m spelled x l = record { k = m; counted = spelled.counted; located = l; at = stands_at b br fr cr bytes m spelled x l }
 
-pub locate-from-requires : goal.locate-from-requires
-locate-from-requires c = record { shelves = search located_shelves; k_counted = search located_counted }
+      found : (x : Located) → Locates (filed b br fr) old x → (y : Located) → Locates (filed b br fr) new y → Both (tables b br fr cr) old new x y
+      found x lx y ly = record { old-name = here old j s x lx; new-name = here new k new_spelled y ly }
 
-pub locate-to-requires : goal.locate-to-requires
-locate-to-requires c = record { shelves = search located_shelves; k_counted = search new-counted }
+pub returns-in_err-j : goal.returns-in_err-j
+returns-in_err-j c =
+    let p = err_from_is_err_and c.from_residual.result c.from_residual.ensures.1 in
+    rw (p.1, p.2) (old_refused _ _ _ _ _ c.args.new.now _ c.in_err-j.ensures)
 
-pub returns-in-Refused : goal.returns-in-Refused
-returns-in-Refused c = search old_refused
+pub returns-in_err-k : goal.returns-in_err-k
+returns-in_err-k c =
+    let p = err_from_is_err_and c.from_residual-in_err-k.result c.from_residual-in_err-k.ensures.1 in
+    let bad = reports BadName _ _ c.in_err-k.ensures.value in
+    rw (p.1, p.2, bad.1) (new_bad _ _ _ _ _ c.args.new.now _ c.in_ok-j.ensures _ c.name_form.ensures bad.0)
 
-pub returns-in-Bad : goal.returns-in-Bad
-returns-in-Bad c = search new_bad
+pub locate-from-requires-clause-shelves : goal.locate-from-requires-clause-shelves
+locate-from-requires-clause-shelves c = old_shelves _ _ _ _ _ c.args.new.now _ c.in_ok-j.ensures _ c.name_form.ensures
 
-pub returns-in-Syllables-form : goal.returns-in-Syllables-form
-returns-in-Syllables-form c = search found
+pub locate-to-requires-clause-shelves : goal.locate-to-requires-clause-shelves
+locate-to-requires-clause-shelves c = old_shelves _ _ _ _ _ c.args.new.now _ c.in_ok-j.ensures _ c.name_form.ensures
+
+pub locate-to-requires-clause-k_counted : goal.locate-to-requires-clause-k_counted
+locate-to-requires-clause-k_counted c = new-counted _ _ _ _ _ _ _ c.in_ok-j.ensures _ c.name_form.ensures _ c.in_ok-k.ensures.ok_part
+
+pub returns : goal.returns
+returns c = found _ _ _ _ _ _ _ c.in_ok-j.ensures _ c.name_form.ensures _ c.in_ok-k.ensures.ok_part _ c.locate-from.ensures _ c.locate-to.ensures

@@ -1,32 +1,30 @@
--- Another file stays.
-use mathlib.Core.Path.{◌≡◌, refl, sym}
-use mathlib.Core.Logic.{◌≢◌}
-use mathlib.Core.Bool.{Bool, true, false, ◌&&◌}
-use lib.Dec.{eqb}
-use borrow.Author.Tests.{eq-eqb, ne_eqb}
-use Rattle.records.specs.Tests.{and_false}
+-- Where nothing goes with the new name, or another file does, the old name's file stays.
+use Rattle.std.specs.Prelude.{◌≡◌, true, false, eqb, Some, None}
+use Rattle.std.proofs.Common.{◌∙◌, sym}
+use borrow.Author.Tests.{not-true, not-false}
+use Rattle.meaning.specs.declared.FileNo.{FileNo}
 use Rattle.linking.specs.Act.{last_goes}
 use Rattle.linking.specs.declared.Plan.{Plan}
 use Rattle.linking.proofs.last_goes.Goals as goal
 
-other-file : (p : Plan) → p.to.file.0 ≢ p.from.file.0 → false ≡ last_goes p
+nothing : (p : Plan) → p.gone ≡ None → None ≡ last_goes p
 unfolding last_goes
-other-file p d = go (eqb p.to.file.0 p.from.file.0) (ne_eqb p.to.file.0 p.from.file.0 d)
-  where
-    go : (t : Bool) → t ≡ false → false ≡ p.lone && t
-    go true e = cc
-    go false e = sym (and_false p.lone)
+nothing p e = rw e
 
-same-file : (p : Plan) → p.to.file.0 ≡ p.from.file.0 → p.lone ≡ last_goes p
-unfolding last_goes
-same-file p e = go p.lone (eqb p.to.file.0 p.from.file.0) (eq-eqb p.to.file.0 p.from.file.0 e)
-  where
-    go : (l t : Bool) → t ≡ true → l ≡ l && t
-    go true t e = sym e
-    go false t e = refl
+module _ (p : Plan) (g : FileNo) (e : p.gone ≡ Some g) where
+  other-file : eqb g.0 p.file.0 ≡ false → None ≡ last_goes p
+  unfolding last_goes
+  other-file is = rw (e, is)
 
-pub returns-then-plan : goal.returns-then-plan
-returns-then-plan c = search other-file
+  same-file : eqb g.0 p.file.0 ≡ true → Some p.file ≡ last_goes p
+  unfolding last_goes
+  same-file is = rw (e, is)
+
+pub returns-in_err-g : goal.returns-in_err-g
+returns-in_err-g c = c.from_residual.ensures ∙ nothing _ c.in_err-g.was
+
+pub returns-then-ne : goal.returns-then-ne
+returns-then-ne c = other-file _ _ c.in_ok-g.was (not-true _ (sym c.if-ne.ensures))
 
 pub returns : goal.returns
-returns c = search same-file
+returns c = same-file _ _ c.in_ok-g.was (not-false _ (sym c.if-ne.ensures))

@@ -1,33 +1,29 @@
--- The old name's own file stays.
-use mathlib.Core.Path.{◌≡◌, refl, sym}
-use mathlib.Core.Logic.{◌≢◌}
-use mathlib.Core.Bool.{Bool, true, false, not, ◌&&◌}
-use lib.Dec.{eqb}
-use borrow.Author.Tests.{eq-eqb, ne_eqb}
-use Rattle.records.specs.Tests.{and_false}
+-- Where nothing goes with the new name, or the old name's own file would, nothing goes.
+use Rattle.std.specs.Prelude.{◌≡◌, true, false, eqb, Some, None}
+use Rattle.std.proofs.Common.{◌∙◌, sym}
+use Rattle.meaning.specs.declared.FileNo.{FileNo}
 use Rattle.linking.specs.Act.{goes}
 use Rattle.linking.specs.declared.Plan.{Plan}
 use Rattle.linking.proofs.replaced_goes.Goals as goal
 
-same-file : (p : Plan) → p.to.file.0 ≡ p.from.file.0 → false ≡ goes p
+nothing : (p : Plan) → p.gone ≡ None → None ≡ goes p
 unfolding goes
-same-file p e = go (eqb p.to.file.0 p.from.file.0) (eq-eqb p.to.file.0 p.from.file.0 e)
-  where
-    go : (t : Bool) → t ≡ true → false ≡ p.lone && not t
-    go true e = sym (and_false p.lone)
-    go false e = cc
+nothing p e = rw e
 
-other-file : (p : Plan) → p.to.file.0 ≢ p.from.file.0 → p.lone ≡ goes p
-unfolding goes
-other-file p d = go p.lone (eqb p.to.file.0 p.from.file.0) (ne_eqb p.to.file.0 p.from.file.0 d)
-  where
-    go : (l t : Bool) → t ≡ false → l ≡ l && not t
-    go true true e = e
-    go true false e = refl
-    go false t e = refl
+module _ (p : Plan) (g : FileNo) (e : p.gone ≡ Some g) where
+  same-file : eqb g.0 p.file.0 ≡ true → None ≡ goes p
+  unfolding goes
+  same-file is = rw (e, is)
 
-pub returns-then-plan : goal.returns-then-plan
-returns-then-plan c = search same-file
+  other-file : eqb g.0 p.file.0 ≡ false → Some g ≡ goes p
+  unfolding goes
+  other-file is = rw (e, is)
+
+pub returns-in_err-g : goal.returns-in_err-g
+returns-in_err-g c = c.from_residual.ensures ∙ nothing _ c.in_err-g.was
+
+pub returns-then-eq : goal.returns-then-eq
+returns-then-eq c = same-file _ _ c.in_ok-g.was (sym c.if-eq.ensures)
 
 pub returns : goal.returns
-returns c = search other-file
+returns c = other-file _ _ c.in_ok-g.was (sym c.if-eq.ensures)

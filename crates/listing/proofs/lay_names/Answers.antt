@@ -1,26 +1,20 @@
-use Prim.Native.Nat.{◌+◌, ◌≤◌}
-use mathlib.Core.Path.{refl}
-use native.Mathlib.Omega.{arith}
-use borrow.Author.Rules.{rules}
-use lib.ListN.{length}
-use Rattle.directories.specs.FindLaws.{run-held, block_inside}
-use Rattle.listing.specs.RunLaws.{places-end_start, places-laid_start, places-room, places-end-next, places-laid-next, places-laid-end}
+use Rattle.std.proofs.Common.{rules, arith}
+use Rattle.listing.specs.RunLaws.{laid_start, laid-room, laid-next, laid_all}
 use Rattle.listing.proofs.lay_names.Goals as goal
 
 pub loop-k-init : goal.loop-k-init
-loop-k-init c = (search rules, refl, search places-end_start, search places-laid_start)
+loop-k-init c = (search rules, laid_start _ _ _ _ _ (omega arith))
 
-pub place_start-at-requires : goal.place_start-at-requires
-place_start-at-requires c = run-held _ _ _ _ _ c.requires.lies (search rules)
+pub lay_name-end-requires-clause-room_in_bounds : goal.lay_name-end-requires-clause-room_in_bounds
+lay_name-end-requires-clause-room_in_bounds c =
+    laid-room _ _ _ _ _ _ c.place_start-at.ensures (search rules) _ _ _ c.loop-j.invariant.1 _ (search rules) c.requires.names_fit
 
-pub lay_names_in_run-end-requires : goal.lay_names_in_run-end-requires
-lay_names_in_run-end-requires c = let inside : c.place_start-at.result + 512 ≤ length c.args.blocks.now = search block_inside in record { run_in_bounds = (omega arith, omega arith); room_in_bounds = search places-room }
-
-pub loop-k-preserved : goal.loop-k-preserved
-loop-k-preserved c = (search rules, search rules, search places-end-next, search places-laid-next)
-
-pub shape_of-buffer : goal.shape_of-buffer
-shape_of-buffer c = c.loop-k.invariant.1
+pub loop-j-preserved : goal.loop-j-preserved
+loop-j-preserved c = (
+  search rules,
+  laid-next _ _ _ _ _ _ c.place_start-at.ensures (search rules) _ _ _ c.loop-j.invariant.1 _ _
+      c.lay_name-end.auto.buffer c.lay_name-end.ensures.value c.lay_name-end.ensures.buffer_after,
+)
 
 pub returns : goal.returns
-returns c = search places-laid-end
+returns c = laid_all _ _ _ _ _ _ _ _ c.loop-k.invariant.1 (search rules) c.requires.names_fit

@@ -1,17 +1,10 @@
--- The names of the runs passed are laid; the measure is how many records are left.
-use Prim.Native.Nat.{◌-◌, ◌*◌, ◌≤◌}
-use mathlib.Core.Path.{◌≡◌}
-use lib.ListN.{length}
-use lib.Seq.{sets}
-use Rattle.listing.specs.Names.{place_names}
-use Rattle.listing.specs.RunLaws.{passed}
+-- The names of the records passed are laid.
+use Rattle.std.proofs.Common.{◌+◌, ◌*◌, ◌≤◌, min}
+use Rattle.listing.specs.RunLaws.{Laid}
 use Rattle.listing.proofs.lay_names.Given as goal
 
 abbrev pub invariant-loop-k : goal.invariant-loop-k
-invariant-loop-k l =
-    (l.k ≤ 2048) × (length l.buffer ≡ length l.initial.buffer)
-    × (l.end ≡ length (place_names l.blocks l.block_records l.d.0 (passed l.blocks l.block_records l.d.0 l.count l.k)))
-    × (l.buffer ≡ sets l.initial.buffer 0 (place_names l.blocks l.block_records l.d.0 (passed l.blocks l.block_records l.d.0 l.count l.k)))
+invariant-loop-k l = (l.k ≤ 64) × Laid l.store.blocks.now l.store.block_records.now l.d.0 l.fn.buffer l.buffer l.end (min (32 * l.k) l.count)
 
-abbrev pub decreases-loop-k : goal.decreases-loop-k
-decreases-loop-k l = l.count - 32 * l.k
+abbrev pub invariant-loop-j : goal.invariant-loop-j
+invariant-loop-j l = (l.j ≤ l.j-end) × Laid l.store.blocks.now l.store.block_records.now l.d.0 l.fn.buffer l.buffer l.end (32 * l.k + l.j)

@@ -1,5 +1,5 @@
--- The form of k syllables and the pieces from here on is the form of the name; the measure is how many more may follow.
-use Prim.Native.Nat.{◌-◌, ◌≤◌}
+-- The form of k syllables and the pieces from here on is the form of the name.
+use Prim.Native.Nat.{◌≤◌}
 use mathlib.Core.Path.{◌≡◌}
 use lib.ListN.{length, drop}
 use Rattle.meaning.specs.Name.{split, syllables}
@@ -8,6 +8,3 @@ use Rattle.names.proofs.count_syllables.Given as goal
 
 abbrev pub invariant-loop-k : goal.invariant-loop-k
 invariant-loop-k l = (l.k ≤ 8) × ((l.at ≤ length l.name) × (form_of (syllables l.name) ≡ form_with l.k (split (drop l.at l.name))))
-
-abbrev pub decreases-loop-k : goal.decreases-loop-k
-decreases-loop-k l = 8 - l.k

@@ -1,97 +1,30 @@
-use Prim.Native.Nat.{ℕ, ◌+◌, ◌-◌, ◌≤◌, ◌<◌}
-use mathlib.Core.Path.{◌≡◌, refl, sym, ap, ◌∙◌}
-use mathlib.Core.Bool.{true, false}
-use mathlib.Core.List.{List}
-use native.Mathlib.Omega.{arith}
-use lib.Dec.{eqb}
-use lib.ListN.{length, get_or}
+-- It starts otherwise, or a zero is looked for in it; or it starts with the row, and ends there or goes on.
+use Rattle.std.proofs.Common.{◌<◌, length, sym, ◌∙◌, rules, eq-eqb, get_or-drop}
 use Rattle.records.specs.Numbers.{one}
-use Rattle.meaning.specs.Name.{same, entry_in}
-use Rattle.names.specs.Syllables.{part}
-use Rattle.names.specs.SyllableLaws.{length_part, one-part}
-use Rattle.names.specs.RecordNames.{record_from, begins, record_length, record_one, begins_none, begins-next, names_long, names-ended, names-other, names_full, names-end}
-use borrow.Author.Rules.{rules}
+use Rattle.names.specs.RecordNames.{record_length, field_is, names_apart, names_zero, names_begun, names_full, names-end}
+use Rattle.names.proofs.names_record.Goals.{then-not-starts_with-via-then-not-starts_with, then-not-starts_with-via-else-not-starts_with+then-contains}
 use Rattle.names.proofs.names_record.Goals as goal
 
-module _ (table name : List ℕ) (at from to : ℕ) (fits : at + 16 ≤ length table) (l : from ≤ to) (h : to ≤ length name) where
-  r : List ℕ
-  r = record_from table at
-
-  s : List ℕ
-  s = part name from to
-
-  size : length s ≡ to - from
-  unfolding s
-  size = length_part name from to l h
-
-  sixteen : length r ≡ 16
-  unfolding r
-  sixteen = record_length table at fits
-
-  in_record : (i : ℕ) → i < 14 → one r (2 + i) ≡ get_or table (at + 2 + i) 0
-  unfolding r
-  in_record i b =
-      let z : at + (2 + i) ≡ at + 2 + i = omega arith in
-      record_one table at fits (2 + i) (omega arith) ∙ ap (one table) z ∙ (unfold one in refl)
-
-  in_part : (i : ℕ) → i < to - from → one s i ≡ get_or name (from + i) 0
-  unfolding s
-  in_part i b = one-part name from to i b ∙ (unfold one in refl)
-
-  too_long : 14 < to - from → false ≡ same (entry_in (record_from table at)).name (part name from to)
-  unfolding r s
-  too_long m = sym (names_long r s sixteen (omega (arith, size)))
-
-  module _ (n : ℕ) (isSize : n ≡ to - from) (few : n ≤ 14) where
-    module _ (i : ℕ) (inside : i < n) where
-      ended : get_or table (at + 2 + i) 0 ≡ 0 → false ≡ same (entry_in (record_from table at)).name (part name from to)
-      unfolding r s
-      ended e = sym (names-ended r s sixteen i (omega (arith, size)) (in_record i (omega arith) ∙ e))
-
-      other : (get_or table (at + 2 + i) 0 ≡ get_or name (from + i) 0 → ⊥) → false ≡ same (entry_in (record_from table at)).name (part name from to)
-      unfolding r s
-      other d =
-          sym (names-other r s sixteen i (omega (arith, size)) (λ e. d (sym (in_record i (omega arith)) ∙ e ∙ in_part i (omega arith))))
-
-      one_more : begins (record_from table at) (part name from to) i ≡ true → (get_or table (at + 2 + i) 0 ≡ 0 → ⊥) → get_or table (at + 2 + i) 0 ≡ get_or name (from + i) 0 →
-          begins (record_from table at) (part name from to) (i + 1) ≡ true
-      unfolding r s
-      one_more b z e =
-          begins-next r s i b (in_record i (omega arith) ∙ e ∙ sym (in_part i (omega arith))) (λ q. z (sym (in_record i (omega arith)) ∙ q))
-
-    module _ (i : ℕ) (within : i ≤ n) (past : n ≤ i) (b : begins (record_from table at) (part name from to) i ≡ true) where
-      all_begins : begins r s (length s) ≡ true
-      unfolding r s
-      all_begins = let z : i ≡ length s = omega (arith, size) in rw z at b
-
-      fourteen : n ≡ 14 → true ≡ same (entry_in (record_from table at)).name (part name from to)
-      unfolding r s
-      fourteen e = sym (names_full r s sixteen all_begins (omega (arith, size)))
-
-      by_the-next : (n ≡ 14 → ⊥) → eqb (get_or table (at + 2 + n) 0) 0 ≡ same (entry_in (record_from table at)).name (part name from to)
-      unfolding r s
-      by_the-next d =
-          let z : length s ≡ n = omega (arith, size) in
-          let q : one r (2 + length s) ≡ get_or table (at + 2 + n) 0 = rw z (in_record n (omega arith)) in
-          sym (names-end r s sixteen all_begins (omega (arith, size)) ∙ ap (λ x. eqb x 0) q)
-
-pub returns-then-n-gt-LONGEST_SYLLABLE : goal.returns-then-n-gt-LONGEST_SYLLABLE
-returns-then-n-gt-LONGEST_SYLLABLE c = search too_long
-
-pub loop-i-init : goal.loop-i-init
-loop-i-init c = (refl, search rules, search rules, search begins_none)
-
-pub returns-then-b-eq0 : goal.returns-then-b-eq0
-returns-then-b-eq0 c = search ended
-
-pub returns-then-b-name : goal.returns-then-b-name
-returns-then-b-name c = search other
-
-pub loop-i-preserved : goal.loop-i-preserved
-loop-i-preserved c = (search rules, search rules, search rules, search one_more)
+pub returns-then-not-starts_with : goal.returns-then-not-starts_with
+returns-then-not-starts_with c =
+    let size = record_length _ _ c.requires in
+    elim c.then-not-starts_with.branch [
+      | then-not-starts_with-via-then-not-starts_with w ↦
+          sym (names_apart _ _ size (rw (field_is _ _ c.requires) at (sym c.starts_with.ensures.value ∙ w.if-not-starts_with.true)))
+      | then-not-starts_with-via-else-not-starts_with+then-contains w ↦ sym (names_zero _ _ size (sym w.contains.ensures.value ∙ w.if-contains.true))
+    ]
 
 pub returns-then-n-eq-LONGEST_SYLLABLE : goal.returns-then-n-eq-LONGEST_SYLLABLE
-returns-then-n-eq-LONGEST_SYLLABLE c = search fourteen
+returns-then-n-eq-LONGEST_SYLLABLE c =
+    let size = record_length _ _ c.requires in
+    let starts = rw (field_is _ _ c.requires) at (sym c.starts_with.ensures.value ∙ c.if-not-starts_with.false) in
+    let full = c.if-n-eq-LONGEST_SYLLABLE.true in
+    eq-eqb _ _ full ∙ sym (names_full _ _ size (names_begun _ _ size starts (sym c.contains.ensures.value ∙ c.if-contains.false)) full)
 
-pub returns : goal.returns
-returns c = search by_the-next
+pub returns-else-n-eq-LONGEST_SYLLABLE : goal.returns-else-n-eq-LONGEST_SYLLABLE
+unfolding one
+returns-else-n-eq-LONGEST_SYLLABLE c =
+    let short : length c.args.syllable.now < 14 = search rules in
+    let size = record_length _ _ c.requires in
+    let starts = rw (field_is _ _ c.requires) at (sym c.starts_with.ensures.value ∙ c.if-not-starts_with.false) in
+    rw (field_is _ _ c.requires, get_or-drop) (sym (names-end _ _ size (names_begun _ _ size starts (sym c.contains.ensures.value ∙ c.if-contains.false)) short))

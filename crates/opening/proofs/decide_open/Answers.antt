@@ -1,31 +1,25 @@
 -- Each return is a case of what open gives on a well-written name, by the tests that led there.
-use Prim.Native.Nat.{ℕ, ◌≤◌}
-use mathlib.Core.Path.{◌≡◌, refl, ◌∙◌}
-use mathlib.Core.Logic.{◌≢◌}
-use mathlib.Core.List.{List, [], ◌∷◌}
-use native.Mathlib.Omega.{arith}
+use Rattle.std.specs.Prelude.{ℕ, ◌≡◌, refl, ◌≢◌, List, [], ◌∷◌, Option, Result as Answers, Ok, Err, ok_or}
+use Rattle.std.proofs.Common.{◌∙◌}
+use Rattle.std.proofs.lemmas.Result.{err_from_is_err_and}
 use Rattle.meaning.specs.Store.{channel, channel_to, named, free_channel}
-use Rattle.meaning.specs.Tables.{Tables, tables, store_of, channel_count}
+use Rattle.meaning.specs.Tables.{Tables, store_of, channel_count}
 use Rattle.meaning.specs.NameCalls.{open'}
 use Rattle.meaning.specs.Result.{Result, done, unless, missing, all_open}
 use Rattle.meaning.specs.Run.{Call, result_of, meaning, accepts}
 use Rattle.meaning.specs.declared.Report.{Report}
 use Rattle.meaning.specs.declared.Report.TheVariants.{NoSuchName, NoFreeCids}
 use Rattle.meaning.specs.declared.ChannelNo.{ChannelNo}
-use Rattle.tables.specs.declared.FoundChannel.{FoundChannel}
-use Rattle.tables.specs.declared.FoundChannel.TheVariants as F
+use Rattle.meaning.specs.declared.FileNo.{FileNo}
 use Rattle.tables.specs.Searches.{channel_with, channel_found}
-use Rattle.placing.specs.Free.{no_channel_free, channel_free, channel_below, some_channel_free}
-use Rattle.naming.specs.Judged.{OnName, on_name_of, refuses}
-use Rattle.layout.specs.Layout.{sound_layout}
 use Rattle.lookup.specs.Filed.{filed}
+use Rattle.naming.specs.Judged.{OnName, Spelled, on_name_of}
 use Rattle.naming.specs.Located.{Locates}
-use Rattle.naming.specs.At.{At, located_shelves, located_counted, located_at, follows, is_missing, not_missing}
-use Rattle.naming.specs.declared.Judged.{Judged}
-use Rattle.naming.specs.declared.Judged.TheVariants.{Syllables, Refused}
+use Rattle.naming.specs.At.{At, judged_shelves, stands_at, follows, not_old, not_missing, stands_for}
 use Rattle.naming.specs.declared.Located.{Located}
+use Rattle.naming.specs.declared.Located.TheVariants.{Old}
+use Rattle.placing.specs.Free.{few-channels, reports, finds, no_channel_free, channel_free, channel_below, some_channel_free}
 use Rattle.opening.specs.Open.{Decided}
-use Rattle.opening.specs.declared.Opening.TheVariants.{Of, No}
 use Rattle.opening.proofs.decide_open.Goals as goal
 
 abbrev rest : Tables → List (List ℕ) → Result
@@ -38,62 +32,55 @@ on_name_lem : (t : Tables) (bytes : List ℕ) → on_name_of t bytes (rest t) �
 unfolding result_of meaning accepts open' on_name_of
 on_name_lem t bytes = refl
 
-refusal : (t : Tables) (bytes : List ℕ) (h : Judged) → OnName t bytes h → (why : Report) → h ≡ Refused why → Decided t bytes (No why)
-refusal t bytes h on why e = record { means = refuses t bytes h on why e (rest t) ∙ on_name_lem t bytes; inside = tt }
+refusal : (t : Tables) (bytes : List ℕ) (why : Report) → OnName t bytes (Err why) → Decided t bytes (Err why)
+refusal t bytes why on = record { means = on (rest t) ∙ on_name_lem t bytes; fits = tt }
 
-module _ (t : Tables) (bytes : List ℕ) (k : ℕ) (x : Located) (a : At t bytes k x) where
-  given : rest t a.name ≡ result_of (Call.Open bytes) t
-  given = follows t bytes k x a (rest t) ∙ on_name_lem t bytes
+module _ (t : Tables) (bytes : List ℕ) (k : ℕ) (sp : Spelled t bytes k) (x : Located) (l : Locates (filed t.blocks t.block_records t.file_records) bytes x) where
+  at : At t bytes k x
+  at = stands_at t.blocks t.block_records t.file_records t.channel_records bytes k sp x l
 
-  no_name : x.file.0 ≡ 0 → Decided t bytes (No NoSuchName)
+  given : rest t at.name ≡ result_of (Call.Open bytes) t
+  given = follows t bytes k x at (rest t) ∙ on_name_lem t bytes
+
+  no_name : ((d f : FileNo) → x ≢ Old d f) → Decided t bytes (Err NoSuchName)
   unfolding unless
-  no_name e = record { means = rw (is_missing t bytes k x a e) at given; inside = tt }
+  no_name other = record { means = rw (not_old t bytes k x at other) at given; fits = tt }
 
-  module _ (some : x.file.0 ≢ 0) (y : FoundChannel) (found : y ≡ channel_found (channel_count t.channel_records) (channel_with t.channel_records 0)) where
-    no_channel_lem : y ≡ F.Nowhere → Decided t bytes (No NoFreeCids)
+  module _ (d f : FileNo) (is : x ≡ Old d f) (y : Option ChannelNo) (found : y ≡ channel_found (channel_count t.channel_records) (channel_with t.channel_records 0)) where
+    all_open_lem : (why : Report) → ◌≡◌ {A = Answers ChannelNo Report} (Err why) (ok_or y NoFreeCids) → Decided t bytes (Err why)
     unfolding unless
-    no_channel_lem e = record { means = rw (not_missing t bytes k x a some, no_channel_free t y found e) at given; inside = tt }
+    all_open_lem why e =
+        let r = reports NoFreeCids y why e in
+        rw r.1 (record { means = rw (not_missing t bytes k x at d f is, no_channel_free t y found r.0) at given; fits = tt })
 
-    opens : (c : ChannelNo) → y ≡ F.At c → Decided t bytes (Of c x.file)
+    opened : (c : ChannelNo) → ◌≡◌ {A = Answers ChannelNo Report} (Ok c) (ok_or y NoFreeCids) → Decided t bytes (Ok (c, f))
     unfolding unless
-    opens c e =
+    opened c e =
+        let spare = finds NoFreeCids y c e in
         record {
-          means = rw (not_missing t bytes k x a some, some_channel_free t y found c e, channel_free t y found c e, ← a.stands) at given;
-          inside = channel_below t y found c e;
+          means =
+              rw (not_missing t bytes k x at d f is, some_channel_free t y found c spare, channel_free t y found c spare, ← stands_for t bytes k x at d f is) at given;
+          fits = channel_below t y found c spare;
         }
 
--- the same, over what the code has at hand
-module _ (b br fr cr bytes : List ℕ) (h : Judged) (on : OnName (tables b br fr cr) bytes h) (k : ℕ) (e : h ≡ Syllables k) (x : Located) (l : Locates (filed b br fr) bytes x) where
-  at : At (tables b br fr cr) bytes k x
-  at = located_at b br fr cr bytes h on k e x l
+pub returns-in_err-k : goal.returns-in_err-k
+returns-in_err-k c =
+    let p = err_from_is_err_and c.from_residual.result c.from_residual.ensures.1 in
+    rw (p.1, p.2) (refusal _ _ _ c.in_err-k.ensures)
 
-  missing_so : x.file.0 ≡ 0 → Decided (tables b br fr cr) bytes (No NoSuchName)
-  missing_so = no_name (tables b br fr cr) bytes k x at
-
-  few-channels : channel_count cr ≤ 4294967296
-  few-channels = omega (arith, (sound_layout (tables b br fr cr) at.ok).lengths.few-channels)
-
-  module _ (some : x.file.0 ≢ 0) (y : FoundChannel) (found : y ≡ channel_found (channel_count cr) (channel_with cr 0)) where
-    all_open_lem : y ≡ F.Nowhere → Decided (tables b br fr cr) bytes (No NoFreeCids)
-    all_open_lem = no_channel_lem (tables b br fr cr) bytes k x at some y found
-
-    opened : (c : ChannelNo) → y ≡ F.At c → Decided (tables b br fr cr) bytes (Of c x.file)
-    opened = opens (tables b br fr cr) bytes k x at some y found
-
-pub locate-at-requires : goal.locate-at-requires
-locate-at-requires c = record { shelves = search located_shelves; k_counted = search located_counted }
-
-pub returns-then-f-eq0 : goal.returns-then-f-eq0
-returns-then-f-eq0 c = search missing_so
-
-pub find_channel-requires : goal.find_channel-requires
-find_channel-requires c = search few-channels
+pub locate-requires-clause-shelves : goal.locate-requires-clause-shelves
+locate-requires-clause-shelves c = judged_shelves _ _ _ _ _ _ c.in_ok-k.ensures
 
 pub returns-in_default : goal.returns-in_default
-returns-in_default c = search all_open_lem
+returns-in_default c = no_name _ _ _ c.in_ok-k.ensures _ c.locate.ensures c.in_default.not-Old
 
-pub returns-in-Refused : goal.returns-in-Refused
-returns-in-Refused c = search refusal
+pub find_channel-requires : goal.find_channel-requires
+find_channel-requires c = few-channels _ c.in_ok-k.ensures.ok
 
-pub returns-in-At : goal.returns-in-At
-returns-in-At c = search opened
+pub returns-in_err-channel : goal.returns-in_err-channel
+returns-in_err-channel c =
+    let p = err_from_is_err_and c.from_residual-in_err-channel.result c.from_residual-in_err-channel.ensures.1 in
+    rw (p.1, p.2) (all_open_lem _ _ _ c.in_ok-k.ensures _ c.locate.ensures _ _ c.in-Old.is _ c.find_channel.ensures _ c.in_err-channel.ensures.value)
+
+pub returns : goal.returns
+returns c = opened _ _ _ c.in_ok-k.ensures _ c.locate.ensures _ _ c.in-Old.is _ c.find_channel.ensures _ c.in_ok-channel.ensures.value

@@ -1,5 +1,4 @@
 -- The record is built, then written at its place.
-use native.Mathlib.Omega.{arith}
 use borrow.Author.Rules.{rules}
 use Rattle.recording.specs.RecordingLaws.{short_last, record_built, writable_built, rewrites_built}
 use Rattle.recording.proofs.give_name.Goals as goal
@@ -7,13 +6,12 @@ use Rattle.recording.proofs.give_name.Goals as goal
 pub write_record-requires : goal.write_record-requires
 write_record-requires c =
     let pre = c.requires.record_fits in
-    let short = short_last _ pre.1 pre.2 in
-    record { at_in_bounds = search rules; part_fits = (omega (arith, c.last_start.ensures), search rules, omega (arith, c.last_start.ensures)) }
+    record { at_in_bounds = search rules; syllable_fits = short_last _ pre.1 pre.2 _ c.last_syllable.ensures }
 
 pub write_file-requires : goal.write_file-requires
 write_file-requires c =
-    writable_built _ _ _ _ _ _ _ (record_built _ c.requires.record_fits.1 c.requires.record_fits.2 _ _ _ c.last_start.ensures c.write_record.ensures) c.requires.rewritable
+    writable_built _ _ _ _ _ _ _ (record_built _ c.requires.record_fits.1 c.requires.record_fits.2 _ _ _ c.last_syllable.ensures c.write_record.ensures) c.requires.rewritable
 
 pub returns : goal.returns
 returns c =
-    λ channels. rewrites_built _ _ _ _ _ _ _ (record_built _ c.requires.record_fits.1 c.requires.record_fits.2 _ _ _ c.last_start.ensures c.write_record.ensures) c.requires.rewritable channels _ (c.write_file.ensures channels)
+    λ channels. rewrites_built _ _ _ _ _ _ _ (record_built _ c.requires.record_fits.1 c.requires.record_fits.2 _ _ _ c.last_syllable.ensures c.write_record.ensures) c.requires.rewritable channels _ (c.write_file.ensures channels)

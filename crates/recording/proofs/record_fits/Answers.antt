@@ -17,7 +17,7 @@ use Rattle.tables.specs.declared.FileRecord.{FileRecord}
 use Rattle.soundness.specs.Seen.{files_store}
 use Rattle.lookup.specs.LookLaws.{directory_there}
 use Rattle.recording.specs.Fit.{FitsIn, if_fits_in}
-use Rattle.recording.specs.declared.Fit.TheVariants.{Fits, No}
+use Rattle.std.specs.Prelude.{Ok, Err}
 use Rattle.recording.proofs.record_fits.Goals as goal
 
 module _ (records files : List ℕ) (d i : ℕ) (is : is_directory (files_store files) d ≡ true) (few : (file_length files d ≤ 32768) × (i ≤ 2048))
@@ -31,23 +31,23 @@ module _ (records files : List ℕ) (d i : ℕ) (is : is_directory (files_store 
   short : r.length ≤ 32768
   short = omega (arith, its_size, few)
 
-  within : 16 * i + 16 ≤ r.length → FitsIn (free_block_count records) size (max size (16 * i + 16)) Fits
+  within : 16 * i + 16 ≤ r.length → FitsIn (free_block_count records) size (max size (16 * i + 16)) (Ok tt)
   within h = let e = its_size in (omega (arith, few), omega arith)
 
   module _ (past : r.length < 16 * i + 16) where
-    too_big : 32768 < 16 * i + 16 → FitsIn (free_block_count records) size (max size (16 * i + 16)) (No TooBig)
+    too_big : 32768 < 16 * i + 16 → FitsIn (free_block_count records) size (max size (16 * i + 16)) (Err TooBig)
     unfolding if_fits_in unless
     too_big h result = let e = its_size in rw (lt-ltb longest (max size (16 * i + 16)) (omega arith))
 
     module _ (small : 16 * i + 16 ≤ 32768) (free : ℕ) (counted : free ≡ free_block_count records)
         (all : ℕ) (is_all : all ≡ needed (16 * i + 16)) (had : ℕ) (is-had : had ≡ needed r.length) where
-      no_room : free < all - had → FitsIn (free_block_count records) size (max size (16 * i + 16)) (No NoRoom)
+      no_room : free < all - had → FitsIn (free_block_count records) size (max size (16 * i + 16)) (Err NoRoom)
       unfolding if_fits_in unless
       no_room h result =
           let e = its_size in
           rw (le-ltb longest (max size (16 * i + 16)) (omega arith), lt-ltb (free_block_count records) (needed (max size (16 * i + 16)) - needed size) (omega arith))
 
-      fits : all - had ≤ free → FitsIn (free_block_count records) size (max size (16 * i + 16)) Fits
+      fits : all - had ≤ free → FitsIn (free_block_count records) size (max size (16 * i + 16)) (Ok tt)
       fits h = let e = its_size in (omega arith, omega arith)
 
 pub file_record-size-requires : goal.file_record-size-requires
@@ -59,8 +59,8 @@ returns-then-end-size c = search within
 pub returns-then-end : goal.returns-then-end
 returns-then-end c = search too_big
 
-pub returns-then-free-places : goal.returns-then-free-places
-returns-then-free-places c = search no_room
+pub returns-then-count_free_blocks-places : goal.returns-then-count_free_blocks-places
+returns-then-count_free_blocks-places c = search no_room
 
 pub returns : goal.returns
 returns c = search fits

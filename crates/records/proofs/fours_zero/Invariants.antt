@@ -1,5 +1,5 @@
--- Every number passed is zero; the measure is how many are left.
-use Prim.Native.Nat.{◌-◌, ◌*◌, ◌≤◌}
+-- Every number passed is zero.
+use Prim.Native.Nat.{◌*◌, ◌≤◌}
 use mathlib.Core.Path.{◌≡◌}
 use mathlib.Core.Bool.{true}
 use Rattle.records.specs.Numbers.{zeros}
@@ -7,6 +7,3 @@ use Rattle.records.proofs.fours_zero.Given as goal
 
 abbrev pub invariant-loop-k : goal.invariant-loop-k
 invariant-loop-k l = (l.k ≤ l.n) × (zeros l.table l.at (4 * l.k) ≡ true)
-
-abbrev pub decreases-loop-k : goal.decreases-loop-k
-decreases-loop-k l = l.n - l.k

@@ -1,5 +1,5 @@
--- Every byte passed is zero, those of the fours too; the measure is how many are left.
-use Prim.Native.Nat.{ℕ, ◌+◌, ◌-◌, ◌≤◌}
+-- Every byte passed is zero, those of the fours too.
+use Prim.Native.Nat.{ℕ, ◌+◌, ◌≤◌}
 use mathlib.Core.Path.{◌≡◌}
 use mathlib.Core.List.{List}
 use mathlib.Core.Bool.{Bool, true}
@@ -13,6 +13,3 @@ is_zero l at i = eqb (one l (at + i)) 0
 
 abbrev pub invariant-loop-i : goal.invariant-loop-i
 invariant-loop-i l = (l.i ≤ l.n) × (every l.i (is_zero l.table l.at) ≡ true)
-
-abbrev pub decreases-loop-i : goal.decreases-loop-i
-decreases-loop-i l = l.n - l.i

@@ -7,6 +7,7 @@ use lib.ListN.{length, set, replicate, length-set, length-replicate, get_or-repl
 use lib.Seq.{ext_get_or, get_or-set_same, get_or-set_other}
 use Rattle.records.specs.Tests.{same_or_not}
 use Rattle.rooms.proofs.blank_records.Invariants.{Blank}
+use borrow.Author.Rules.{rules}
 use Rattle.rooms.proofs.blank_records.Goals as goal
 
 blank_more : (l : List ℕ) (i : ℕ) → i < length l → Blank l i → Blank (set l i 0) (i + 1)
@@ -25,11 +26,11 @@ blank_all first l i size all blank =
 pub loop-i-init : goal.loop-i-init
 loop-i-init c = (refl, λ j (h : j < 0). absurd (omega arith))
 
-pub loop-i-smaller : goal.loop-i-smaller
-loop-i-smaller c = simp length-set (omega arith)
-
 pub loop-i-preserved : goal.loop-i-preserved
-loop-i-preserved c = (simp length-set c.loop-i.invariant.0, search blank_more)
+loop-i-preserved c =
+    (simp length-set c.loop-i.invariant.0, blank_more _ _ (omega (arith, c.loop-i.invariant.0, c.loop-i-test.true)) c.loop-i.invariant.1)
 
 pub returns : goal.returns
-returns c = search blank_all
+returns c =
+    let done : length c.args.records.now ≤ c.loop-i.i = search rules in
+    blank_all _ _ _ c.loop-i.invariant.0 (omega (arith, c.loop-i.invariant.0, done)) c.loop-i.invariant.1

@@ -1,4 +1,4 @@
--- The bytes passed are zero, and no byte is added; the measure is how many are left.
+-- The bytes passed are zero, and no byte is added.
 use Prim.Native.Nat.{ℕ, ◌-◌, ◌<◌}
 use mathlib.Core.Path.{◌≡◌}
 use mathlib.Core.List.{List}
@@ -11,6 +11,3 @@ Blank l i = (j : ℕ) → j < i → get_or l j 0 ≡ 0
 
 abbrev pub invariant-loop-i : goal.invariant-loop-i
 invariant-loop-i l = (length l.records ≡ length l.initial.records) × Blank l.records l.i
-
-abbrev pub decreases-loop-i : goal.decreases-loop-i
-decreases-loop-i l = length l.records - l.i

@@ -60,7 +60,7 @@ pub returns-then-not-is_sound : goal.returns-then-not-is_sound
 returns-then-not-is_sound c = search unsound
 
 pub overflow_cast-result : goal.overflow_cast-result
-overflow_cast-result c = let few : c.count_free_blocks-free.result ≤ 128 = search few-blocks in search rules
+overflow_cast-result c = let few : c.count_free_blocks-blocks.result ≤ 128 = search few-blocks in search rules
 
 pub overflow_cast-result-2 : goal.overflow_cast-result-2
 overflow_cast-result-2 c = let few : c.count_files-files.result ≤ 64 = search few-files in search rules

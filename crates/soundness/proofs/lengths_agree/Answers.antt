@@ -1,28 +1,42 @@
-use Prim.Native.Nat.{ℕ, ◌*◌, ◌/◌, ◌≤◌}
+use Prim.Native.Nat.{ℕ, ◌*◌, ◌/◌, ◌%◌, ◌≤◌}
 use mathlib.Core.Path.{◌≡◌, refl, sym, ◌∙◌}
 use mathlib.Core.List.{List, [], ◌∷◌}
-use mathlib.Core.Bool.{Bool, true, false, not}
+use mathlib.Core.Bool.{Bool, true, ◌&&◌}
 use native.Mathlib.Omega.{arith}
-use borrow.Author.Tests.{eq-eqb, ne_eqb, leb-true, not-true, not-false}
+use borrow.Author.Tests.{eq-eqb, eqb-true, leb-true}
 use lib.ListN.{length}
 use lib.Dec.{leb, eqb}
 use Rattle.records.specs.Rows.{all_of}
-use Rattle.records.specs.Tests.{and_right, AllTrue}
+use Rattle.records.specs.Tests.{both, and_both, both_ways, all_of-true, true-all_of}
 use Rattle.meaning.specs.Tables.{tables}
 use Rattle.meaning.specs.Sound.{between, lengths_agree}
 use Rattle.soundness.specs.Rules.{counts_to}
-use Rattle.soundness.specs.RuleLoops.{all_of_fails, all_of-last}
-use mathlib.Core.Path.{ap}
+use Rattle.soundness.specs.Together.{met, unmet}
 use Rattle.soundness.proofs.lengths_agree.Goals as goal
+use Rattle.soundness.proofs.lengths_agree.Goals.{Joined-records_agree-2, then-records_agree, else-records_agree, then-records_agree-2, else-records_agree-2}
 
--- a count that is in range is small
-small : (n most : ℕ) (flag : Bool) → flag ≡ counts_to n most → not flag ≡ false → n ≤ most
-unfolding counts_to
-small n most flag e h = leb-true n most (and_right (leb 1 n) (leb n most) (sym e ∙ not-false flag h))
+whole_fours : (n : ℕ) → eqb n (4 * (n / 4)) ≡ eqb (n % 4) 0
+whole_fours n =
+    both_ways (eqb n (4 * (n / 4))) (eqb (n % 4) 0)
+    (λ e. let h = eqb-true n (4 * (n / 4)) e in eq-eqb (n % 4) 0 (omega (arith, h)))
+    (λ e. let h = eqb-true (n % 4) 0 e in eq-eqb n (4 * (n / 4)) (omega (arith, h)))
 
-module _ (blocks records files channels : List ℕ) where
-  abbrev checks : List Bool
-  checks =
+whole_eights : (n : ℕ) → eqb n (8 * (n / 8)) ≡ eqb (n % 8) 0
+whole_eights n =
+    both_ways (eqb n (8 * (n / 8))) (eqb (n % 8) 0)
+    (λ e. let h = eqb-true n (8 * (n / 8)) e in eq-eqb (n % 8) 0 (omega (arith, h)))
+    (λ e. let h = eqb-true (n % 8) 0 e in eq-eqb n (8 * (n / 8)) (omega (arith, h)))
+
+-- whole records, from 1 up to a most
+abbrev records-agree : List ℕ → ℕ → ℕ → Bool
+records-agree records size most = counts_to (length records / size) most && eqb (length records % size) 0
+
+module _ (records files channels : List ℕ) where
+  abbrev records_ok : Bool
+  records_ok = records-agree records 4 128 && records-agree files 8 64 && records-agree channels 8 16
+
+  abbrev checks : List ℕ → List Bool
+  checks blocks =
       between 1 128 (length records / 4)
       ∷ eqb (length blocks) (512 * (length records / 4))
       ∷ eqb (length records) (4 * (length records / 4))
@@ -32,98 +46,63 @@ module _ (blocks records files channels : List ℕ) where
       ∷ eqb (length channels) (8 * (length channels / 8))
       ∷ []
 
-  abbrev verdict : Bool
-  verdict = lengths_agree (tables blocks records files channels)
-
-  rules_are : all_of checks ≡ verdict
-  unfolding lengths_agree
-  rules_are = refl
-
-  module _ (flag : Bool) where
-    blocks-out : flag ≡ counts_to (length records / 4) 128 → not flag ≡ true → false ≡ verdict
-    unfolding counts_to
-    blocks-out e h = sym (all_of_fails checks 0 (sym e ∙ not-true flag h)) ∙ rules_are
-
-    files-out : flag ≡ counts_to (length files / 8) 64 → not flag ≡ true → false ≡ verdict
-    unfolding counts_to
-    files-out e h = sym (all_of_fails checks 3 (sym e ∙ not-true flag h)) ∙ rules_are
-
-    channels-out : flag ≡ counts_to (length channels / 8) 16 → not flag ≡ true → false ≡ verdict
-    unfolding counts_to
-    channels-out e h = sym (all_of_fails checks 5 (sym e ∙ not-true flag h)) ∙ rules_are
-
-  blocks_differ : (length blocks ≡ 512 * (length records / 4) → ⊥) → false ≡ verdict
-  blocks_differ d = sym (all_of_fails checks 1 (ne_eqb (length blocks) (512 * (length records / 4)) d)) ∙ rules_are
-
-  records_differ : (length records ≡ 4 * (length records / 4) → ⊥) → false ≡ verdict
-  records_differ d = sym (all_of_fails checks 2 (ne_eqb (length records) (4 * (length records / 4)) d)) ∙ rules_are
-
-  files_differ : (length files ≡ 8 * (length files / 8) → ⊥) → false ≡ verdict
-  files_differ d = sym (all_of_fails checks 4 (ne_eqb (length files) (8 * (length files / 8)) d)) ∙ rules_are
-
-  -- all others hold
-  last : (b f c : Bool) → b ≡ counts_to (length records / 4) 128 → f ≡ counts_to (length files / 8) 64 → c ≡ counts_to (length channels / 8) 16 →
-      not b ≡ false → not f ≡ false → not c ≡ false →
-      length blocks ≡ 512 * (length records / 4) → length records ≡ 4 * (length records / 4) → length files ≡ 8 * (length files / 8) →
-      eqb (length channels) (8 * (length channels / 8)) ≡ verdict
+  few : (flag : Bool) → flag ≡ records_ok → flag ≡ true → length records / 4 ≤ 128
   unfolding counts_to
-  last b f c b-is f-is c-is b-ok f-ok c-ok blocks-ok records-ok files-ok = sym (all_of-last others channels_test hold) ∙ rules_are
-    where
-      others : List Bool
-      others =
-          between 1 128 (length records / 4)
-          ∷ eqb (length blocks) (512 * (length records / 4))
-          ∷ eqb (length records) (4 * (length records / 4))
-          ∷ between 1 64 (length files / 8)
-          ∷ eqb (length files) (8 * (length files / 8))
-          ∷ between 1 16 (length channels / 8)
-          ∷ []
+  few flag is e =
+      let (e, _) = both _ (records-agree channels 8 16) (sym is ∙ e) in
+      let (e, _) = both _ (records-agree files 8 64) e in
+      let (e, _) = both _ (eqb (length records % 4) 0) e in
+      let (_, e) = both (leb 1 (length records / 4)) _ e in
+      leb-true (length records / 4) 128 e
 
-      channels_test : Bool
-      channels_test = eqb (length channels) (8 * (length channels / 8))
-
-      hold : AllTrue others
-      hold = (
-        sym b-is ∙ not-false b b-ok,
+  all : (blocks : List ℕ) (value : Bool) → value ≡ records_ok && eqb (length blocks) (512 * (length records / 4)) → value ≡ lengths_agree (tables blocks records files channels)
+  unfolding lengths_agree counts_to
+  all blocks value v =
+      v ∙ both_ways (records_ok && eqb (length blocks) (512 * (length records / 4))) (all_of (checks blocks))
+      (λ e.
+      let (e, blocks-ok) = both records_ok _ e in
+      let (e, channels-ok) = both _ (records-agree channels 8 16) e in
+      let (records-ok, files-ok) = both (records-agree records 4 128) _ e in
+      let (few-records, whole-records) = both (between 1 128 (length records / 4)) _ records-ok in
+      let (few-files, whole-files) = both (between 1 64 (length files / 8)) _ files-ok in
+      let (few-channels, whole-channels) = both (between 1 16 (length channels / 8)) _ channels-ok in
+      true-all_of (checks blocks) (
+        few-records,
         (
-          eq-eqb (length blocks) (512 * (length records / 4)) blocks-ok,
-          (
-            eq-eqb (length records) (4 * (length records / 4)) records-ok,
-            (
-              sym f-is ∙ not-false f f-ok,
-              (
-                eq-eqb (length files) (8 * (length files / 8)) files-ok,
-                (sym c-is ∙ not-false c c-ok, tt),
-              ),
-            ),
-          ),
+          blocks-ok,
+          (whole_fours (length records) ∙ whole-records, (few-files, (whole_eights (length files) ∙ whole-files, (few-channels, (whole_eights (length channels) ∙ whole-channels, tt))))),
         ),
-      )
+      ))
+      (λ e.
+      let (few-records, (blocks-ok, (whole-records, (few-files, (whole-files, (few-channels, (whole-channels, _))))))) = all_of-true (checks blocks) e in
+      and_both records_ok _
+      (and_both _ _
+      (and_both _ _ (and_both _ _ few-records (sym (whole_fours (length records)) ∙ whole-records)) (and_both _ _ few-files (sym (whole_eights (length files)) ∙ whole-files)))
+      (and_both _ _ few-channels (sym (whole_eights (length channels)) ∙ whole-channels)))
+      blocks-ok)
 
-pub returns-then-not-counts_to : goal.returns-then-not-counts_to
-returns-then-not-counts_to c = search blocks-out
+so_far : (c : Joined-records_agree-2) →
+    c.if-records_agree-2.value ≡ records_ok c.args.store.now.block_records.now c.args.store.now.file_records.now c.args.store.now.channel_records.now
+so_far c =
+    let first : c.if-records_agree.value ≡ records-agree c.args.store.now.block_records.now 4 128 && records-agree c.args.store.now.file_records.now 8 64 =
+    elim c.if-records_agree.branch [
+      | then-records_agree w ↦ met _ _ _ _ c.records_agree.ensures w.if-records_agree.true (w.value-is ∙ w.records_agree-then-records_agree.ensures)
+      | else-records_agree w ↦ unmet _ _ _ _ c.records_agree.ensures w.if-records_agree.false w.value-is
+    ] in
+    elim c.if-records_agree-2.branch [
+      | then-records_agree-2 w ↦ met _ _ _ _ first w.if-records_agree-2.true (w.value-is ∙ w.records_agree-then-records_agree-2.ensures)
+      | else-records_agree-2 w ↦ unmet _ _ _ _ first w.if-records_agree-2.false w.value-is
+    ]
 
-pub returns-then-not-counts_to-2 : goal.returns-then-not-counts_to-2
-returns-then-not-counts_to-2 c = search files-out
-
-pub returns-then-not-counts_to-3 : goal.returns-then-not-counts_to-3
-returns-then-not-counts_to-3 c = search channels-out
-
-pub overflow_mul-b : goal.overflow_mul-b
-overflow_mul-b c =
-    let few = small _ _ _ c.counts_to.ensures (ap not c.if-not-counts_to.false) in
+pub overflow_mul-result : goal.overflow_mul-result
+overflow_mul-result c =
+    let few = few _ _ _ _ (so_far (goal.at.overflow_mul-result c).Joined-records_agree-2) c.if-records_agree-3.true in
     omega arith
 
-pub returns-then-blocks-b : goal.returns-then-blocks-b
-returns-then-blocks-b c = search blocks_differ
+pub returns-then-records_agree-3 : goal.returns-then-records_agree-3
+returns-then-records_agree-3 c =
+    all _ _ _ _ _ (met _ _ _ _ (so_far (goal.at.returns-then-records_agree-3 c).Joined-records_agree-2) c.if-records_agree-3.true refl)
 
-pub returns-then-block_records-b : goal.returns-then-block_records-b
-returns-then-block_records-b c = search records_differ
-
-pub returns-then-file_records-f : goal.returns-then-file_records-f
-returns-then-file_records-f c = search files_differ
-
-pub returns : goal.returns
-returns c =
-    last _ _ _ _ _ _ _ c.counts_to.ensures c.counts_to-2.ensures c.counts_to-3.ensures
-    (ap not c.if-not-counts_to.false) (ap not c.if-not-counts_to-2.false) (ap not c.if-not-counts_to-3.false) c.if-blocks-b.false c.if-block_records-b.false c.if-file_records-f.false
+pub returns-else-records_agree-3 : goal.returns-else-records_agree-3
+returns-else-records_agree-3 c =
+    all _ _ _ _ _ (unmet _ _ _ _ (so_far (goal.at.returns-else-records_agree-3 c).Joined-records_agree-2) c.if-records_agree-3.false refl)

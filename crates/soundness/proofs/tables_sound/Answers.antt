@@ -1,82 +1,123 @@
-use Prim.Native.Nat.{ℕ, ◌≤◌}
-use mathlib.Core.Path.{◌≡◌, sym, ◌∙◌}
-use mathlib.Core.List.{List, [], ◌∷◌}
-use mathlib.Core.Bool.{Bool, true, false, not}
-use borrow.Author.Tests.{not-true, not-false}
-use lib.ListN.{get_or}
-use Rattle.meaning.specs.Tables.{tables, Tables, block_count, file_count, channel_count}
+use Prim.Native.Nat.{◌≤◌}
+use mathlib.Core.Path.{◌≡◌, refl, sym, ◌∙◌}
+use mathlib.Core.List.{[], ◌∷◌}
+use mathlib.Core.Bool.{Bool, true, ◌&&◌}
+use Rattle.records.specs.Tests.{and_left, and_right}
+use Rattle.meaning.specs.Types.{tables_of}
+use Rattle.meaning.specs.Tables.{Tables, block_count, file_count, channel_count}
 use Rattle.meaning.specs.Sound.{lengths_agree, files_sound}
 use Rattle.layout.specs.Lengths.{lengths_agree_lem}
-use Rattle.soundness.specs.RuleLoops.{all_of_fails, all_of-last}
 use Rattle.soundness.specs.Seen.{files_store}
-use Rattle.soundness.specs.SoundLaws.{zeros_in, tables_sound, owners_sound, places_sound, table_rules, table_rules_lem}
+use Rattle.soundness.specs.SoundLaws.{zeros_in, tables_sound, owners_sound, places_sound, table_rules_lem}
 use Rattle.soundness.specs.PlaceCounts.{Placeable, placeable}
-use mathlib.Core.Path.{ap}
+use Rattle.soundness.specs.Together.{met, unmet, in_turn_all}
 use Rattle.soundness.proofs.tables_sound.Goals as goal
+use Rattle.soundness.proofs.tables_sound.Goals.{
+  Joined-lengths_agree,
+  Joined-zeros_stand,
+  Joined-zeros_stand-2,
+  Joined-files_sound,
+  then-lengths_agree,
+  else-lengths_agree,
+  then-zeros_stand,
+  else-zeros_stand,
+  then-zeros_stand-2,
+  else-zeros_stand-2,
+  then-files_sound,
+  else-files_sound,
+}
 
-module _ (blocks records files channels : List ℕ) where
-  abbrev t : Tables
-  t = tables blocks records files channels
+-- ---- the first two rules, three, four and five
 
-  -- rule k fails
-  fails : (k : ℕ) (flag : Bool) → flag ≡ get_or (table_rules t) k true → not flag ≡ true → false ≡ tables_sound t
-  fails k flag e n = sym (table_rules_lem t ∙ all_of_fails (table_rules t) k (sym e ∙ not-true flag n))
+module _ (t : Tables) where
+  abbrev two : Bool
+  two = lengths_agree t && zeros_in t.file_records
 
-  module _ (lengths zeros-f zeros-c file-rule owners : Bool)
-      (a : lengths ≡ lengths_agree t) (b : zeros-f ≡ zeros_in files) (c : zeros-c ≡ zeros_in channels) (d : file-rule ≡ files_sound (files_store files)) (e : owners ≡ owners_sound t)
-      (a-ok : not lengths ≡ false) (b-ok : not zeros-f ≡ false) (c-ok : not zeros-c ≡ false) (d-ok : not file-rule ≡ false) (e-ok : not owners ≡ false) where
-    last : (flag : Bool) → flag ≡ places_sound t → flag ≡ tables_sound t
-    last flag p =
-        p ∙ sym (table_rules_lem t ∙ all_of-last (lengths_agree t ∷ zeros_in files ∷ zeros_in channels ∷ files_sound (files_store files) ∷ owners_sound t ∷ []) (places_sound t)
-        (sym a ∙ not-false lengths a-ok, (sym b ∙ not-false zeros-f b-ok, (sym c ∙ not-false zeros-c c-ok, (sym d ∙ not-false file-rule d-ok, (sym e ∙ not-false owners e-ok, tt))))))
+  abbrev three : Bool
+  three = two && zeros_in t.channel_records
+
+  abbrev four : Bool
+  four = three && files_sound (files_store t.file_records)
+
+  abbrev five : Bool
+  five = four && owners_sound t
+
+  all : (value : Bool) → value ≡ five && places_sound t → value ≡ tables_sound t
+  all value v =
+      v ∙ in_turn_all (lengths_agree t) (zeros_in t.file_records ∷ zeros_in t.channel_records ∷ files_sound (files_store t.file_records) ∷ owners_sound t ∷ places_sound t ∷ [])
+      ∙ sym (table_rules_lem t)
 
   -- tables whose lengths agree have few records
-  few : (lengths : Bool) → lengths ≡ lengths_agree t → not lengths ≡ false → (block_count records ≤ 128) × (file_count files ≤ 64) × (channel_count channels ≤ 16)
-  few lengths a a-ok = let l = lengths_agree_lem t (sym a ∙ not-false lengths a-ok) in (l.few-blocks, l.few-files, l.few-channels)
+  few : lengths_agree t ≡ true → (block_count t.block_records ≤ 128) × (file_count t.file_records ≤ 64) × (channel_count t.channel_records ≤ 16)
+  few e = let l = lengths_agree_lem t e in (l.few-blocks, l.few-files, l.few-channels)
+
+  first_of : three ≡ true → lengths_agree t ≡ true
+  first_of e = and_left (lengths_agree t) _ (and_left two _ e)
 
   -- what the rule of places asks for
-  module _ (lengths file-rule owners : Bool) (a : lengths ≡ lengths_agree t) (d : file-rule ≡ files_sound (files_store files)) (e : owners ≡ owners_sound t)
-      (a-ok : not lengths ≡ false) (d-ok : not file-rule ≡ false) (e-ok : not owners ≡ false) where
-    ready : ((file_count files ≤ 64) × (files_sound (files_store files) ≡ true)) × Placeable records
-    ready =
-        let l = lengths_agree_lem t (sym a ∙ not-false lengths a-ok) in
-        let f : files_sound (files_store files) ≡ true = sym d ∙ not-false file-rule d-ok in
-        ((l.few-files, f), placeable records files l.few-blocks l.few-files f (sym e ∙ not-false owners e-ok))
+  ready : five ≡ true → ((file_count t.file_records ≤ 64) × (files_sound (files_store t.file_records) ≡ true)) × Placeable t.block_records
+  ready e =
+      let fours = and_left four (owners_sound t) e in
+      let l = lengths_agree_lem t (first_of (and_left three _ fours)) in
+      let f : files_sound (files_store t.file_records) ≡ true = and_right three _ fours in
+      ((l.few-files, f), placeable t.block_records t.file_records l.few-blocks l.few-files f (and_right four _ e))
 
-pub returns-then-not-lengths_agree : goal.returns-then-not-lengths_agree
-returns-then-not-lengths_agree c = fails _ _ _ _ 0 _ c.lengths_agree.ensures (ap not c.if-not-lengths_agree.true)
+module _ (c : Joined-lengths_agree) where
+  two_found : c.if-lengths_agree.value ≡ two (tables_of c.args.store.now)
+  two_found =
+      elim c.if-lengths_agree.branch [
+        | then-lengths_agree w ↦ met _ _ _ _ c.lengths_agree.ensures w.if-lengths_agree.true (w.value-is ∙ w.zeros_stand.ensures)
+        | else-lengths_agree w ↦ unmet _ _ _ _ c.lengths_agree.ensures w.if-lengths_agree.false w.value-is
+      ]
 
-pub file_zeros_stand-requires : goal.file_zeros_stand-requires
-file_zeros_stand-requires c = (few _ _ _ _ _ c.lengths_agree.ensures (ap not c.if-not-lengths_agree.false)).1
+module _ (c : Joined-zeros_stand) where
+  three_found : c.if-zeros_stand.value ≡ three (tables_of c.args.store.now)
+  three_found =
+      let so_far = two_found (goal.at.Joined-zeros_stand c).Joined-lengths_agree in
+      elim c.if-zeros_stand.branch [
+        | then-zeros_stand w ↦ met _ _ _ _ so_far w.if-zeros_stand.true (w.value-is ∙ w.zeros_stand-then-zeros_stand.ensures)
+        | else-zeros_stand w ↦ unmet _ _ _ _ so_far w.if-zeros_stand.false w.value-is
+      ]
 
-pub returns-then-not-file_zeros_stand : goal.returns-then-not-file_zeros_stand
-returns-then-not-file_zeros_stand c = fails _ _ _ _ 1 _ c.file_zeros_stand.ensures (ap not c.if-not-file_zeros_stand.true)
+module _ (c : Joined-zeros_stand-2) where
+  four_found : c.if-zeros_stand-2.value ≡ four (tables_of c.args.store.now)
+  four_found =
+      let so_far = three_found (goal.at.Joined-zeros_stand-2 c).Joined-zeros_stand in
+      elim c.if-zeros_stand-2.branch [
+        | then-zeros_stand-2 w ↦ met _ _ _ _ so_far w.if-zeros_stand-2.true (w.value-is ∙ w.files_sound.ensures)
+        | else-zeros_stand-2 w ↦ unmet _ _ _ _ so_far w.if-zeros_stand-2.false w.value-is
+      ]
 
-pub channel_zeros_stand-requires : goal.channel_zeros_stand-requires
-channel_zeros_stand-requires c = (few _ _ _ _ _ c.lengths_agree.ensures (ap not c.if-not-lengths_agree.false)).2
+module _ (c : Joined-files_sound) where
+  five_found : c.if-files_sound.value ≡ five (tables_of c.args.store.now)
+  five_found =
+      let so_far = four_found (goal.at.Joined-files_sound c).Joined-zeros_stand-2 in
+      elim c.if-files_sound.branch [
+        | then-files_sound w ↦ met _ _ _ _ so_far w.if-files_sound.true (w.value-is ∙ w.owners_sound.ensures)
+        | else-files_sound w ↦ unmet _ _ _ _ so_far w.if-files_sound.false w.value-is
+      ]
 
-pub returns-then-not-channel_zeros_stand : goal.returns-then-not-channel_zeros_stand
-returns-then-not-channel_zeros_stand c = fails _ _ _ _ 2 _ c.channel_zeros_stand.ensures (ap not c.if-not-channel_zeros_stand.true)
+-- ---- the answers
 
 pub files_sound-requires : goal.files_sound-requires
-files_sound-requires c = (few _ _ _ _ _ c.lengths_agree.ensures (ap not c.if-not-lengths_agree.false)).1
-
-pub returns-then-not-files_sound : goal.returns-then-not-files_sound
-returns-then-not-files_sound c = fails _ _ _ _ 3 _ c.files_sound.ensures (ap not c.if-not-files_sound.true)
+files_sound-requires c =
+    let e = sym (three_found (goal.at.files_sound-requires c).Joined-zeros_stand) ∙ c.if-zeros_stand-2.true in
+    (few (tables_of c.args.store.now) (first_of (tables_of c.args.store.now) e)).1
 
 pub owners_sound-requires : goal.owners_sound-requires
 owners_sound-requires c =
-    (few _ _ _ _ _ c.lengths_agree.ensures (ap not c.if-not-lengths_agree.false)).0
-
-pub returns-then-not-owners_sound : goal.returns-then-not-owners_sound
-returns-then-not-owners_sound c = fails _ _ _ _ 4 _ c.owners_sound.ensures (ap not c.if-not-owners_sound.true)
+    let t = tables_of c.args.store.now in
+    let e = sym (four_found (goal.at.owners_sound-requires c).Joined-zeros_stand-2) ∙ c.if-files_sound.true in
+    (few t (first_of t (and_left (three t) _ e))).0
 
 pub places_sound-requires : goal.places_sound-requires
 places_sound-requires c =
-    ready _ _ _ _ _ _ _ c.lengths_agree.ensures c.files_sound.ensures c.owners_sound.ensures (ap not c.if-not-lengths_agree.false) (ap not c.if-not-files_sound.false) (ap not c.if-not-owners_sound.false)
+    ready (tables_of c.args.store.now) (sym (five_found (goal.at.places_sound-requires c).Joined-files_sound) ∙ c.if-owners_sound.true)
 
-pub returns : goal.returns
-returns c =
-    last _ _ _ _ _ _ _ _ _
-    c.lengths_agree.ensures c.file_zeros_stand.ensures c.channel_zeros_stand.ensures c.files_sound.ensures c.owners_sound.ensures
-    (ap not c.if-not-lengths_agree.false) (ap not c.if-not-file_zeros_stand.false) (ap not c.if-not-channel_zeros_stand.false) (ap not c.if-not-files_sound.false) (ap not c.if-not-owners_sound.false) _ c.places_sound.ensures
+pub returns-then-owners_sound : goal.returns-then-owners_sound
+returns-then-owners_sound c =
+    all (tables_of c.args.store.now) _ (met _ _ _ _ (five_found (goal.at.returns-then-owners_sound c).Joined-files_sound) c.if-owners_sound.true c.places_sound.ensures)
+
+pub returns-else-owners_sound : goal.returns-else-owners_sound
+returns-else-owners_sound c =
+    all (tables_of c.args.store.now) _ (unmet _ _ _ _ (five_found (goal.at.returns-else-owners_sound c).Joined-files_sound) c.if-owners_sound.false refl)

@@ -1,22 +1,22 @@
-use native.Mathlib.Nat.{le_of_eq}
-use Rattle.records.specs.LoopLaws.{search_start, search_none, found_equal, passed-other}
-use Rattle.tables.specs.Searches.{channel_with}
-use Rattle.tables.specs.SearchLaws.{channel_test}
-use Rattle.tables.specs.Found.{channel_found_lem, channel_nowhere}
-use borrow.Author.Rules.{rules}
+use Rattle.std.proofs.Common.{rules, arith, ◌≡◌, ◌∙◌}
+use Rattle.records.specs.Rows.{found_below, lowest_below}
+use Rattle.meaning.specs.Tables.{channel_count, channel_file_at}
+use Rattle.tables.specs.Searches.{is_to, channel_with}
+use Rattle.tables.specs.Found.{found_index, no_index, channel_found_lem, channel_nowhere}
+use Rattle.tables.proofs.find_channel.Goals.{After-lowest}
 use Rattle.tables.proofs.find_channel.Goals as goal
 
-pub loop-c-init : goal.loop-c-init
-loop-c-init c = (search rules, search search_start)
+found : (c : After-lowest) → c.lowest.result ≡ found_below (channel_count c.args.records.now) (channel_with c.args.records.now c.args.f.0)
+unfolding channel_with channel_file_at lowest_below
+found c = c.lowest.ensures (is_to c.args.records.now c.args.f.0) (λ i b h post. search rules)
 
-pub returns-then-two_at-f : goal.returns-then-two_at-f
-unfolding channel_with
-returns-then-two_at-f c = search (channel_found_lem, found_equal, channel_test, rules)
+pub returns-in_err-c : goal.returns-in_err-c
+returns-in_err-c c = c.from_residual.ensures ∙ channel_nowhere _ _ (no_index _ _ _ (found (goal.at.returns-in_err-c c).After-lowest) c.in_err-c.was)
 
-pub loop-c-preserved : goal.loop-c-preserved
-loop-c-preserved c =
-    (search rules, passed-other _ _ _ c.loop-c.invariant.1 (search rules) _ _ (channel_test _ _ _ _ c.two_at.ensures) c.if-two_at-f.false)
+pub overflow_cast-result : goal.overflow_cast-result
+overflow_cast-result c =
+    let at = found_index _ _ _ (found (goal.at.overflow_cast-result c).After-lowest) _ c.in_ok-c.was in omega (arith, at.0, at.1)
 
 pub returns : goal.returns
-unfolding channel_with
-returns c = search (channel_nowhere, le_of_eq, search_none, rules)
+returns c =
+    let at = found_index _ _ _ (found (goal.at.returns c).After-lowest) _ c.in_ok-c.was in channel_found_lem _ _ _ at.1 (omega (arith, at.0, at.1))

@@ -1,12 +1,11 @@
 -- Each return is a case of what unlink gives on a well-written name, by the tests that led there.
-use Prim.Native.Nat.{ℕ}
-use mathlib.Core.Path.{◌≡◌, refl, sym, ap₂, ◌∙◌}
-use mathlib.Core.Logic.{◌≢◌}
-use mathlib.Core.List.{List, [], ◌∷◌}
-use mathlib.Core.Bool.{Bool, true, false}
+use Rattle.std.specs.Prelude.{ℕ, ◌≡◌, refl, ◌≢◌, List, [], ◌∷◌, Bool, true, false, Option, Ok, Err}
+use Rattle.std.proofs.Common.{ap₂, sym, ◌∙◌}
+use Rattle.std.proofs.lemmas.Result.{err_from_is_err_and}
 use Rattle.meaning.specs.Store.{Change, file, after, is_directory, named, let_go}
-use Rattle.meaning.specs.Tables.{Tables, tables, store_of}
-use Rattle.meaning.specs.NameCalls.{parent, record_for, unnaming, unlink}
+use Rattle.meaning.specs.Tables.{Tables, store_of}
+use Rattle.meaning.specs.Types.{file_numbered}
+use Rattle.meaning.specs.NameCalls.{parent, unnaming, unlink}
 use Rattle.meaning.specs.Result.{Result, done, unless, missing}
 use Rattle.meaning.specs.Run.{Call, result_of, meaning, accepts}
 use Rattle.meaning.specs.declared.Report.{Report}
@@ -15,18 +14,17 @@ use Rattle.meaning.specs.declared.FileNo.{FileNo}
 use Rattle.soundness.specs.Seen.{files_store}
 use Rattle.lookup.specs.Filed.{filed}
 use Rattle.trees.specs.Naming.{without_name}
-use Rattle.counts.specs.OfStore.{OfStore}
-use Rattle.naming.specs.Judged.{OnName, on_name_of, refuses}
-use Rattle.naming.specs.Located.{Locates, InPlace, Recorded}
-use Rattle.naming.specs.At.{At, located_shelves, located_counted, located_at, follows, is_missing, not_missing, file-directory}
-use Rattle.naming.specs.InStore.{found_record, located_in_place}
-use Rattle.naming.specs.declared.Judged.{Judged}
-use Rattle.naming.specs.declared.Judged.TheVariants.{Syllables, Refused}
-use Rattle.naming.specs.declared.Located.{Located}
+use Rattle.counts.specs.OfStore.{OfStore, of_store}
 use Rattle.counts.specs.Gone.{gone_with}
+use Rattle.naming.specs.Judged.{OnName, Spelled, on_name_of}
+use Rattle.naming.specs.Located.{Locates, OldIn, Recorded}
+use Rattle.naming.specs.At.{At, judged_shelves, stands_at, follows, not_old, not_missing, file-directory}
+use Rattle.naming.specs.InStore.{found_record}
+use Rattle.naming.specs.declared.Located.{Located}
+use Rattle.naming.specs.declared.Located.TheVariants.{Old}
+use Rattle.placing.specs.OldName.{old_place}
 use Rattle.unlinking.specs.Unlink.{Decided}
-use Rattle.unlinking.specs.UnlinkLaws.{ordinary, deep, in_directory_lem, to_last, its_record, its_end, takes}
-use Rattle.unlinking.specs.declared.Unlinking.TheVariants.{Of, No}
+use Rattle.unlinking.specs.UnlinkLaws.{ordinary, other, to_last, its_record, its_end, takes}
 use Rattle.unlinking.proofs.decide_unlink.Goals as goal
 
 abbrev rest : Tables → List (List ℕ) → Result
@@ -41,85 +39,77 @@ on_name_lem : (t : Tables) (bytes : List ℕ) → on_name_of t bytes (rest t) �
 unfolding result_of meaning accepts unlink on_name_of
 on_name_lem t bytes = refl
 
-refusal : (t : Tables) (bytes : List ℕ) (h : Judged) → OnName t bytes h → (why : Report) → h ≡ Refused why → Decided t bytes (No why)
-refusal t bytes h on why e = record { means = refuses t bytes h on why e (rest t) ∙ on_name_lem t bytes; inside = tt }
+refusal : (t : Tables) (bytes : List ℕ) (why : Report) → OnName t bytes (Err why) → Decided t bytes (Err why)
+refusal t bytes why on = record { means = on (rest t) ∙ on_name_lem t bytes; fits = tt }
 
 module _ (t : Tables) (bytes : List ℕ) (k : ℕ) (x : Located) (a : At t bytes k x) where
   given : rest t a.name ≡ result_of (Call.Unlink bytes) t
   given = follows t bytes k x a (rest t) ∙ on_name_lem t bytes
 
-  no_name : x.file.0 ≡ 0 → Decided t bytes (No NoSuchName)
+  no_name : ((d f : FileNo) → x ≢ Old d f) → Decided t bytes (Err NoSuchName)
   unfolding unless
-  no_name e = record { means = rw (is_missing t bytes k x a e) at given; inside = tt }
+  no_name other = record { means = rw (not_old t bytes k x a other) at given; fits = tt }
 
-  module _ (some : x.file.0 ≢ 0) (v : Bool) (tells : v ≡ is_directory (files_store t.file_records) x.file.0) where
-    directory : v ≡ true → Decided t bytes (No IsDirectory)
-    unfolding unless
-    directory is = record { means = rw (not_missing t bytes k x a some, file-directory t bytes k x a v tells, is) at given; inside = tt }
+module _ (t : Tables) (bytes : List ℕ) (k : ℕ) (d f : FileNo) (a : At t bytes k (Old d f)) where
+  directory : (v : Bool) → v ≡ is_directory (files_store t.file_records) f.0 → v ≡ true → Decided t bytes (Err IsDirectory)
+  unfolding unless
+  directory v tells is =
+      record {
+        means = rw (not_missing t bytes k (Old d f) a d f refl, file-directory t bytes k (Old d f) a d f refl v tells, is) at (given t bytes k (Old d f) a);
+        fits = tt;
+      }
 
-    module _ (isnt : v ≡ false) where
-      plain : is_directory (files_store t.file_records) x.file.0 ≡ false
-      plain = sym tells ∙ isnt
+module _ (t : Tables) (bytes : List ℕ) (k : ℕ) (sp : Spelled t bytes k) (d f : FileNo) (l : Locates (filed t.blocks t.block_records t.file_records) bytes (Old d f))
+    (v : Bool) (tells : v ≡ is_directory (files_store t.file_records) f.0) (isnt : v ≡ false) where
+  abbrev at : At t bytes k (Old d f)
+  at = stands_at t.blocks t.block_records t.file_records t.channel_records bytes k sp (Old d f) l
 
-      goes_on : done [] [] (file (parent (store_of t) a.name) (unnaming (store_of t) a.name) ∷ let_go (without_name (store_of t) a.name) (named (store_of t) a.name))
-          ≡ result_of (Call.Unlink bytes) t
-      unfolding unless
-      goes_on = rw (not_missing t bytes k x a some, ordinary t bytes k x a some plain) at given
+  plain : is_directory (files_store t.file_records) f.0 ≡ false
+  plain = sym tells ∙ isnt
 
-      unlinks : (i : ℕ) → i ≡ record_for (store_of t) a.name → (g : FileNo) → g.0 ≡ gone_with (store_of t) x.file.0 → Decided t bytes (Of x.parent i g)
-      unlinks i found g gone =
-          record {
-            means =
-                ap₂ (λ (change : Change) (more : List Change). done [] [] (change ∷ more))
-                (its_record t bytes k x a some plain i found g.0 gone) (its_end t bytes k x a some plain i found g.0 gone)
-                ∙ goes_on;
-            inside = takes t bytes k x a some plain i found g.0 gone;
-          }
+  in_place : OldIn t.blocks t.block_records t.file_records bytes d.0
+  in_place = old_place t bytes k sp (Old d f) l d f refl (other t bytes k d f at plain)
 
--- the same, over what the code has at hand
-module _ (b br fr cr bytes : List ℕ) (h : Judged) (on : OnName (tables b br fr cr) bytes h) (k : ℕ) (e : h ≡ Syllables k) (x : Located) (l : Locates (filed b br fr) bytes x) where
-  abbrev t : Tables
-  t = tables b br fr cr
+  counted : OfStore t.blocks t.block_records t.file_records f.0
+  counted = of_store t at.ok f.0 (to_last t bytes k d f at plain)
 
-  at : At t bytes k x
-  at = located_at b br fr cr bytes h on k e x l
+  goes_on : done [] [] (file (parent (store_of t) at.name) (unnaming (store_of t) at.name) ∷ let_go (without_name (store_of t) at.name) (named (store_of t) at.name))
+      ≡ result_of (Call.Unlink bytes) t
+  unfolding unless
+  goes_on = rw (not_missing t bytes k (Old d f) at d f refl, ordinary t bytes k d f at plain) at (given t bytes k (Old d f) at)
 
-  missing_so : x.file.0 ≡ 0 → Decided t bytes (No NoSuchName)
-  missing_so = no_name t bytes k x at
+  unlinks : (i : ℕ) → Recorded (filed t.blocks t.block_records t.file_records) bytes i
+      → (gone : Option FileNo) → gone ≡ file_numbered (gone_with (store_of t) f.0) → Decided t bytes (Ok (d, i, gone))
+  unlinks i r gone goes =
+      let found = found_record t.blocks t.block_records t.file_records t.channel_records bytes k (Old d f) at i r in
+      record {
+        means =
+            ap₂ (λ (change : Change) (more : List Change). done [] [] (change ∷ more))
+            (its_record t bytes k d f at plain i found gone goes) (its_end t bytes k d f at plain i found gone goes)
+            ∙ goes_on;
+        fits = takes t bytes k d f at plain i found gone goes;
+      }
 
-  module _ (some : x.file.0 ≢ 0) (v : Bool) (tells : v ≡ is_directory (files_store fr) x.file.0) where
-    directory_so : v ≡ true → Decided t bytes (No IsDirectory)
-    directory_so = directory t bytes k x at some v tells
+pub returns-in_err-k : goal.returns-in_err-k
+returns-in_err-k c =
+    let p = err_from_is_err_and c.from_residual.result c.from_residual.ensures.1 in
+    rw (p.1, p.2) (refusal _ _ _ c.in_err-k.ensures)
 
-    module _ (isnt : v ≡ false) where
-      in_place : InPlace b br fr bytes x
-      in_place =
-          let plain = sym tells ∙ isnt in
-          located_in_place b br fr cr bytes h on k e x l (deep t bytes k x at some plain) (in_directory_lem t bytes k x at some plain)
+pub locate-requires-clause-shelves : goal.locate-requires-clause-shelves
+locate-requires-clause-shelves c = judged_shelves _ _ _ _ _ _ c.in_ok-k.ensures
 
-      of_store : OfStore b br fr x.file.0
-      of_store = record { channels = cr; ok = at.ok; to_last = to_last t bytes k x at some (sym tells ∙ isnt) }
-
-      unlinks_so : (i : ℕ) → Recorded (filed b br fr) bytes i → (g : FileNo) → g.0 ≡ gone_with (store_of t) x.file.0 → Decided t bytes (Of x.parent i g)
-      unlinks_so i r g gone = unlinks t bytes k x at some v tells isnt i (found_record b br fr cr bytes k x at i r) g gone
-
-pub locate-at-requires : goal.locate-at-requires
-locate-at-requires c = record { shelves = search located_shelves; k_counted = search located_counted }
-
-pub returns-then-f-eq0 : goal.returns-then-f-eq0
-returns-then-f-eq0 c = search missing_so
+pub returns-in_default : goal.returns-in_default
+returns-in_default c = no_name _ _ _ _ (stands_at _ _ _ _ _ _ c.in_ok-k.ensures _ c.locate.ensures) c.in_default.not-Old
 
 pub returns-then-is_directory : goal.returns-then-is_directory
-returns-then-is_directory c = search directory_so
+returns-then-is_directory c = directory _ _ _ _ _ (stands_at _ _ _ _ _ _ c.in_ok-k.ensures _ c.in-Old.ensures) _ c.is_directory.ensures c.if-is_directory.true
 
-pub record_for-i-requires : goal.record_for-i-requires
-record_for-i-requires c = search in_place
+pub own_record-i-requires : goal.own_record-i-requires
+own_record-i-requires c = in_place _ _ _ c.in_ok-k.ensures _ _ c.in-Old.ensures _ c.is_directory.ensures c.if-is_directory.false
 
 pub gone_with-gone-requires : goal.gone_with-gone-requires
-gone_with-gone-requires c = search of_store
+gone_with-gone-requires c = counted _ _ _ c.in_ok-k.ensures _ _ c.in-Old.ensures _ c.is_directory.ensures c.if-is_directory.false
 
-pub returns-in-Refused : goal.returns-in-Refused
-returns-in-Refused c = search refusal
-
-pub returns-else-is_directory : goal.returns-else-is_directory
-returns-else-is_directory c = search unlinks_so
+pub returns : goal.returns
+returns c =
+    unlinks _ _ _ c.in_ok-k.ensures _ _ c.in-Old.ensures _ c.is_directory.ensures c.if-is_directory.false _ c.own_record-i.ensures _ c.gone_with-gone.ensures

@@ -1,6 +1,6 @@
 -- What is decided is done: a refusal leaves the tables; else the file is written, then the channel's record with its position moved.
 use Prim.Native.Nat.{ℕ, ◌+◌}
-use mathlib.Core.Path.{◌≡◌, refl, sym, ap, subst, ◌∙◌}
+use mathlib.Core.Path.{◌≡◌, refl, ap, ◌∙◌}
 use mathlib.Core.List.{List, [], ◌∷◌}
 use borrow.Author.Rules.{rules}
 use lib.ListN.{length}
@@ -13,9 +13,9 @@ use Rattle.meaning.specs.declared.Report.{Report}
 use Rattle.tables.specs.declared.ChannelRecord.{ChannelRecord}
 use Rattle.files.specs.Files.{with_write}
 use Rattle.channels.specs.Move.{moved_by}
-use Rattle.writing.specs.Write.{Decided, Ready, Inside, planned, written}
-use Rattle.writing.specs.declared.Writing.{Writing}
-use Rattle.writing.specs.declared.Writing.TheVariants.{On, No}
+use Rattle.std.specs.Prelude.{Ok, Err}
+use Rattle.std.proofs.lemmas.Result.{err_from_is_err_and}
+use Rattle.writing.specs.Write.{Decided, Ready, written}
 use Rattle.writing.proofs.write.Goals as goal
 
 -- a file's change, then a channel's
@@ -24,16 +24,16 @@ both_put : (t u : Tables) (change : Change) (c f posn : ℕ) → u ≡ put t cha
 unfolding put put_all
 both_put t u change c f posn e = ap (λ u. put u (channel c (channel_to f posn))) e
 
-module _ (b br fr cr : List ℕ) (c : ℕ) (bytes : List ℕ) (d : Writing) (decided : Decided (tables b br fr cr) c (length bytes) d) where
+module _ (b br fr cr : List ℕ) (c : ℕ) (bytes : List ℕ) where
   abbrev t : Tables
   t = tables b br fr cr
 
-  refuses : (why : Report) → d ≡ No why → Promise (Call.Write c bytes) t [] (record { answer = refusal 1 why; buffer = []; tables = t })
-  refuses why e = kept_refusal (Call.Write c bytes) t [] why (ap (planned t c bytes) (sym e) ∙ decided.means bytes refl)
+  refuses : (why : Report) → Decided t c (length bytes) (Err why) → Promise (Call.Write c bytes) t [] (record { answer = refusal 1 why; buffer = []; tables = t })
+  refuses why decided = kept_refusal (Call.Write c bytes) t [] why (decided bytes refl).means
 
-  module _ (y : ChannelRecord) (e : d ≡ On y) where
+  module _ (y : ChannelRecord) (decided : Decided t c (length bytes) (Ok y)) where
     ready : Ready t c (length bytes) y
-    ready = subst (Inside t c (length bytes)) e decided.inside
+    ready = (decided bytes refl).fits
 
     -- an ordinary file stays one
     same_kind : with_write ((store_of t).file y.file.0) y.position bytes ≡ ordinary (written t y bytes)
@@ -51,23 +51,25 @@ module _ (b br fr cr : List ℕ) (c : ℕ) (bytes : List ℕ) (d : Writing) (dec
         let put-so : tables b' br' fr' cr ≡ put t change = wrote cr ∙ ap (λ x. put t (file y.file.0 x)) same_kind in
         let q : records ≡ with_record 8 cr c (channel_record y.file.0 position) = rw (p, moved) in
         kept_done (Call.Write c bytes) t [] (length bytes ∷ []) [] (change ∷ channel c (channel_to y.file.0 position) ∷ [])
-        (ap (planned t c bytes) (sym e) ∙ decided.means bytes refl)
+        (decided bytes refl).means
         (tables b' br' fr' records) (ap (tables b' br' fr') q ∙ both_put t (tables b' br' fr' cr) change c y.file.0 position put-so)
 
+pub returns-in_err-channel : goal.returns-in_err-channel
+returns-in_err-channel c =
+    let p = err_from_is_err_and c.from_residual.result c.from_residual.ensures.1 in
+    rw (p.1, p.2) (refuses _ _ _ _ _ _ _ c.in_err-channel.ensures)
+
 pub write_file-requires : goal.write_file-requires
-write_file-requires c = (ready _ _ _ _ _ c.args.«data».now _ c.decide_write-decided.ensures _ c.in-On.is).writable _ refl
+write_file-requires c = (ready _ _ _ _ _ c.args.«data».now _ c.in_ok-channel.ensures).writable _ refl
 
 pub moved_by-next-requires : goal.moved_by-next-requires
-moved_by-next-requires c = let near = (ready _ _ _ _ _ c.args.«data».now _ c.decide_write-decided.ensures _ c.in-On.is).near in search rules
+moved_by-next-requires c = let near = (ready _ _ _ _ _ c.args.«data».now _ c.in_ok-channel.ensures).near in search rules
 
 pub put_channel_record-requires : goal.put_channel_record-requires
-put_channel_record-requires c = (ready _ _ _ _ _ c.args.«data».now _ c.decide_write-decided.ensures _ c.in-On.is).below
+put_channel_record-requires c = (ready _ _ _ _ _ c.args.«data».now _ c.in_ok-channel.ensures).below
 
 pub overflow_cast-result : goal.overflow_cast-result
-overflow_cast-result c = let near = (ready _ _ _ _ _ c.args.«data».now _ c.decide_write-decided.ensures _ c.in-On.is).near in search rules
+overflow_cast-result c = let near = (ready _ _ _ _ _ c.args.«data».now _ c.in_ok-channel.ensures).near in search rules
 
-pub returns-in-No : goal.returns-in-No
-returns-in-No c = search refuses
-
-pub returns-in-On : goal.returns-in-On
-returns-in-On c = search writes
+pub returns : goal.returns
+returns c = writes _ _ _ _ _ _ _ c.in_ok-channel.ensures _ _ _ c.write_file.ensures _ c.moved_by-next.ensures _ c.put_channel_record.ensures

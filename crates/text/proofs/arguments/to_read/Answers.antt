@@ -1,57 +1,26 @@
--- A channel, a count of at most 2,048, and nothing behind them.
-use Prim.Native.Nat.{ℕ, ◌≤◌, ◌<◌}
-use mathlib.Core.Path.{◌≡◌, refl}
-use mathlib.Core.List.{List}
-use lib.ListN.{length}
-use lib.Dec.{ltb}
-use Rattle.records.specs.Rows.{pick}
-use Rattle.meaning.specs.Run.{Call}
-use Rattle.text.specs.Commands.{rest_at, Reads}
-use Rattle.text.specs.Arguments.{Counts}
-use Rattle.text.specs.declared.Command.{Command}
-use Rattle.text.specs.declared.arguments.Numeral.{Numeral}
-use Rattle.text.specs.declared.arguments.Numeral.TheVariants.{Of, Bad}
-use Rattle.text.specs.declared.Command.TheVariants.{Unknown, Read}
-use borrow.Author.Tests.{le-leb, lt-leb}
-use Rattle.text.specs.Line.{a_number, reading}
+use Rattle.std.proofs.Common.{◌∙◌}
 use Rattle.text.specs.Words.{to_read}
-use Rattle.text.proofs.ReadLaws.{ends_here, without_number, with_number}
+use Rattle.text.proofs.ReadLaws.{too_many, so_many}
 use Rattle.text.proofs.arguments.to_read.Goals as goal
 
-module _ (line : List ℕ) (at : ℕ) (channel : Numeral) (a : Counts line at channel) where
-  no_channel_lem : channel ≡ Bad → Reads line Unknown (to_read (rest_at line at))
-  unfolding to_read
-  no_channel_lem e = without_number line at channel a (λ c. a_number (reading c)) e
+pub returns-in_err-c : goal.returns-in_err-c
+unfolding to_read
+returns-in_err-c c = rw c.from_residual.ensures (c.in_err-c.ensures _)
 
-  module _ (c next : ℕ) (e : channel ≡ Of c next) (asked : Numeral) (b : Counts line next asked) where
-    behind : (r : Command) → Reads line r (a_number (reading c) (rest_at line next)) → Reads line r (to_read (rest_at line at))
-    unfolding to_read
-    behind r h = with_number line at channel a c next (λ c. a_number (reading c)) r e h
+pub returns-in_err-count : goal.returns-in_err-count
+unfolding to_read
+returns-in_err-count c = rw c.from_residual-in_err-count.ensures (c.in_err-count.ensures _ ∙ c.in_ok-c.ensures _)
 
-    no_count : asked ≡ Bad → Reads line Unknown (to_read (rest_at line at))
-    no_count f = behind Unknown (without_number line next asked b (reading c) f)
+pub returns-then-count-gt-LARGEST_READ : goal.returns-then-count-gt-LARGEST_READ
+unfolding to_read
+returns-then-count-gt-LARGEST_READ c = too_many _ _ _ c.if-count-gt-LARGEST_READ.true ∙ c.in_ok-count.ensures _ ∙ c.in_ok-c.ensures _
 
-    module _ (count end : ℕ) (f : asked ≡ Of count end) where
-      too_many : 2048 < count → Reads line Unknown (to_read (rest_at line at))
-      unfolding reading
-      too_many h =
-          behind Unknown (with_number line next asked b count end (reading c) Unknown f
-          (rw (lt-leb count 2048 h) (record { means = refl; inside = tt })))
-
-      reads_so_many : count ≤ 2048 → (r : Command) → r ≡ pick (ltb (length line) end) (Read c count) Unknown → Reads line r (to_read (rest_at line at))
-      unfolding reading
-      reads_so_many h r ended =
-          behind r (with_number line next asked b count end (reading c) r f
-          (rw (le-leb count 2048 h) (ends_here line end (Read c count) r (Call.Read c count) ended refl tt)))
-
-pub returns-in_default : goal.returns-in_default
-returns-in_default c = search no_channel_lem
-
-pub returns-in_default-asked : goal.returns-in_default-asked
-returns-in_default-asked c = search no_count
-
-pub returns-then-count-gt2048 : goal.returns-then-count-gt2048
-returns-then-count-gt2048 c = search too_many
+pub returns-in_err-ended : goal.returns-in_err-ended
+unfolding to_read
+returns-in_err-ended c =
+    rw c.from_residual-in_err-ended.ensures
+    (so_many _ _ _ _ c.if-count-gt-LARGEST_READ.false (c.in_err-ended.ensures _) ∙ c.in_ok-count.ensures _ ∙ c.in_ok-c.ensures _)
 
 pub returns : goal.returns
-returns c = search reads_so_many
+unfolding to_read
+returns c = so_many _ _ _ _ c.if-count-gt-LARGEST_READ.false (c.in_ok-ended.ensures _) ∙ c.in_ok-count.ensures _ ∙ c.in_ok-c.ensures _

@@ -1,31 +1,24 @@
--- A line that is too long asks for nothing; any other is the buffer's first bytes.
-use Prim.Native.Nat.{ℕ}
-use mathlib.Core.Path.{◌≡◌, refl}
-use mathlib.Core.List.{List}
-use mathlib.Core.Bool.{true, false}
+use Rattle.std.proofs.Common.{ℕ, ◌+◌, ◌<◌, ◌≡◌, arith, List, length, None}
+use Rattle.std.specs.Prelude.{replicate}
+use Rattle.std.proofs.lemmas.List.{length-replicate}
 use borrow.Author.Tests.{lt-leb}
-use lib.ListN.{length, take}
 use Rattle.text.specs.Line.{asked, longest_line}
-use Rattle.text.specs.Commands.{Reads}
-use Rattle.text.specs.Gathering.{Pends}
-use Rattle.text.specs.GatheringLaws.{too_long, in_buffer}
-use Rattle.text.specs.declared.Command.{Command}
-use Rattle.text.specs.declared.Command.TheVariants.{Unknown}
-use Rattle.text.specs.declared.lines.Pending.{Pending}
-use Rattle.text.proofs.ReadLaws.{reads_further}
 use Rattle.text.proofs.lines.ask.Goals as goal
 
-module _ (buffer : List ℕ) (p : Pending) where
-  long_asks_nothing : p.long ≡ true → (bytes : List ℕ) → Pends bytes p buffer → Reads buffer Unknown (asked bytes)
-  unfolding asked
-  long_asks_nothing e bytes q = rw (lt-leb (length bytes) longest_line (too_long bytes p buffer q e)) (record { means = refl; inside = tt })
+too_long : (bytes : List ℕ) → longest_line < length bytes → None ≡ asked bytes
+unfolding asked
+too_long bytes h = rw (lt-leb (length bytes) longest_line h)
 
-  asks : p.long ≡ false → (r : Command) → Reads (take p.len buffer) r (asked (take p.len buffer)) → (bytes : List ℕ) → Pends bytes p buffer
-      → Reads buffer r (asked bytes)
-  asks e r a bytes q = rw (in_buffer bytes p buffer q e) (reads_further p.len buffer r (asked (take p.len buffer)) a)
+-- a line that is too long
+long : List ℕ
+long = replicate (longest_line + 1) 0
 
-pub returns-then-long : goal.returns-then-long
-returns-then-long c = search long_asks_nothing
+long_asks : None ≡ asked long
+unfolding long
+long_asks = too_long (replicate (longest_line + 1) 0) (omega (arith, length-replicate {A = ℕ} (longest_line + 1) 0))
 
-pub returns : goal.returns
-returns c = search asks
+pub returns-in-None-clause-asked : goal.returns-in-None-clause-asked
+returns-in-None-clause-asked c bytes h = too_long bytes (rw c.in-None.is at h)
+
+pub returns-in-None-clause-some_line : goal.returns-in-None-clause-some_line
+returns-in-None-clause-some_line c = (long, long_asks)

@@ -1,12 +1,11 @@
--- The test of the code is the test of the definition.
-use borrow.Author.Tests.{lt-ltb, le-ltb}
+use Rattle.std.proofs.Common.{lt-ltb, le-ltb}
 use Rattle.text.specs.Print.{hex_digit}
 use Rattle.text.proofs.print.hex_digit.Goals as goal
 
 pub returns-then-n-lt10 : goal.returns-then-n-lt10
 unfolding hex_digit
-returns-then-n-lt10 c = simp (lt-ltb _ _ c.if-n-lt10.true)
+returns-then-n-lt10 c = rw (lt-ltb _ _ c.if-n-lt10.true)
 
 pub returns-else-n-lt10 : goal.returns-else-n-lt10
 unfolding hex_digit
-returns-else-n-lt10 c = simp (le-ltb _ _ c.if-n-lt10.false)
+returns-else-n-lt10 c = rw (le-ltb _ _ c.if-n-lt10.false)

@@ -1,14 +1,15 @@
--- The bytes passed stand in hex, two digits each; the measure is how many bytes are left.
-use Prim.Native.Nat.{◌+◌, ◌-◌, ◌*◌, ◌≤◌}
-use mathlib.Core.Path.{◌≡◌}
-use lib.ListN.{length, take}
+-- What the output holds, and what is left in hex behind it, is the whole.
+use Rattle.std.proofs.Common.{◌≡◌, ◌+◌, ◌*◌, ◌++◌, length}
+use Rattle.arrayvec.specs.ArrayVec.{array_vec_len}
 use Rattle.text.specs.Print.{hex}
-use Rattle.text.specs.Lays.{Lays}
 use Rattle.text.proofs.print.put_hex.Given as goal
 
-abbrev pub invariant-loop-i : goal.invariant-loop-i
-invariant-loop-i l =
-    (l.i ≤ length l.bytes) × (length l.out ≡ length l.initial.out) × (l.next ≡ l.at + 2 * l.i) × Lays l.initial.out l.at (hex (take l.i l.bytes)) l.out l.next
+abbrev pub invariant-loop-rest : goal.invariant-loop-rest
+invariant-loop-rest l =
+    record {
+      items : l.out.items ++ hex l.rest ≡ l.initial.out.items ++ hex l.initial.rest;
+      len : array_vec_len l.out + 2 * length l.rest ≡ array_vec_len l.initial.out + 2 * length l.initial.rest;
+    }
 
-abbrev pub decreases-loop-i : goal.decreases-loop-i
-decreases-loop-i l = length l.bytes - l.i
+abbrev pub decreases-loop-rest : goal.decreases-loop-rest
+decreases-loop-rest l = length l.rest

@@ -1,9 +1,8 @@
--- A space, and the hex; nothing where there are no bytes.
-use Rattle.text.proofs.PrintLaws.{no_word, a_word_lem}
+use Rattle.text.proofs.PrintLaws.{both_behind, no_word, a_word}
 use Rattle.text.proofs.print.put_hex_word.Goals as goal
 
-pub returns-then-bytes-eq0 : goal.returns-then-bytes-eq0
-returns-then-bytes-eq0 c = search no_word
+pub returns-then-not-is_empty-clause-items : goal.returns-then-not-is_empty-clause-items
+returns-then-not-is_empty-clause-items c = both_behind _ _ _ _ _ _ c.push.ensures.items c.put_hex.ensures.items (a_word _ c.if-not-is_empty.ensures)
 
-pub returns : goal.returns
-returns c = search a_word_lem
+pub returns-else-not-is_empty-clause-items : goal.returns-else-not-is_empty-clause-items
+returns-else-not-is_empty-clause-items c = no_word _ _ c.if-not-is_empty.ensures

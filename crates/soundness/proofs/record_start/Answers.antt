@@ -1,7 +1,0 @@
-use Rattle.soundness.specs.Slots.{slot}
-use borrow.Author.Rules.{rules}
-use Rattle.soundness.proofs.record_start.Goals as goal
-
-pub returns : goal.returns
-unfolding slot
-returns c = search rules
