@@ -103,3 +103,10 @@ module _ (all : List ℕ) (f i n : ℕ) (records : List ℕ) (done b : ℕ) (tak
           so_far = rw e (left-to-take (is_free records b) refl took.count took.left);
           none = none_free (is_free records b) refl took.left;
         }
+
+pub took_one : (records next : List ℕ) (f i b r : ℕ) → Took records next f i b r → r ≤ 1
+took_one records next f i b r took = go (is_free records b) took.count
+  where
+    go : (t : Bool) → r ≡ tally t → r ≤ 1
+    go true e = omega arith
+    go false e = omega arith

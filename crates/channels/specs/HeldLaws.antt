@@ -61,13 +61,14 @@ module _ (t : Tables) (c : ℕ) (y : ChannelRecord) (on : OnChannel t c (Ok y)) 
   pub holding : Holds t c y
   holding = (on.decides (refused NoSuchCid)).fits
 
+module _ (t : Tables) (c : ℕ) (y : ChannelRecord) (h : Holds t c y) where
   pub channel_there : c < channel_count t.channel_records
   unfolding is_open store_of
   channel_there =
-      ltb-true c (channel_count t.channel_records) (and_left (ltb c (store_of t).channel_count) (not (eqb ((store_of t).channel c).file 0)) holding.is_open_lem)
+      ltb-true c (channel_count t.channel_records) (and_left (ltb c (store_of t).channel_count) (not (eqb ((store_of t).channel c).file 0)) h.is_open_lem)
 
   pub file_used : Used (store_of t) y.file.0
-  file_used = rw holding.file (held_used (store_of t) (sound_well t holding.ok) c holding.is_open_lem)
+  file_used = rw h.file (held_used (store_of t) (sound_well t h.ok) c h.is_open_lem)
 
   -- as a need asks it: the file's record lies in its table
   pub file_there : (0 < y.file.0) × (y.file.0 ≤ file_count t.file_records)
@@ -77,13 +78,13 @@ module _ (t : Tables) (c : ℕ) (y : ChannelRecord) (on : OnChannel t c (Ok y)) 
   -- a file that is no directory is ordinary
   pub plain_file : ((store_of t).file y.file.0).kind ≢ 2 → OrdinaryFile ((store_of t).file y.file.0)
   plain_file plain =
-      form-ordinary ((store_of t).file y.file.0) ((sound_well t holding.ok).files y.file.0 file_used.some file_used.within) file_used.kind plain
+      form-ordinary ((store_of t).file y.file.0) ((sound_well t h.ok).files y.file.0 file_used.some file_used.within) file_used.kind plain
 
   pub posn-within : y.position ≤ last_position
-  posn-within = omega (arith, holding.posn, (open_channel (store_of t) (sound_well t holding.ok) c holding.is_open_lem).posn)
+  posn-within = omega (arith, h.posn, (open_channel (store_of t) (sound_well t h.ok) c h.is_open_lem).posn)
 
   pub size_is : length ((store_of t).file ((store_of t).channel c).file).bytes ≡ length_at t.file_records (y.file.0 - 1)
-  size_is = ap (λ f. length ((store_of t).file f).bytes) (sym holding.file) ∙ store_length t y.file.0 file_there.0
+  size_is = ap (λ f. length ((store_of t).file f).bytes) (sym h.file) ∙ store_length t y.file.0 file_there.0
 
   pub kind_is : ((store_of t).file ((store_of t).channel c).file).kind ≡ kind_at t.file_records (y.file.0 - 1)
-  kind_is = ap (λ f. ((store_of t).file f).kind) (sym holding.file) ∙ store_kind t y.file.0 file_there.0
+  kind_is = ap (λ f. ((store_of t).file f).kind) (sym h.file) ∙ store_kind t y.file.0 file_there.0

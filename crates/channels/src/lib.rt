@@ -43,7 +43,7 @@ pub fn fstat(store: &Lent, c: ChannelNo) -> Result<Stat, Report>
 {
     let channel = held_channel(store, c)?;
     let record = file_record(store.file_records, channel.file);
-    let kind = if record.is(Kind::Directory) {
+    let kind = if record.kind == Kind::Directory as u8 {
         Kind::Directory
     } else {
         Kind::File

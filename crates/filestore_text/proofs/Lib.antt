@@ -1,2 +1,3 @@
 pub mod Moving
 pub mod Pieces
+pub mod Written

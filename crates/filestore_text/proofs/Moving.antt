@@ -1,5 +1,5 @@
 -- A piece served line by line: what is printed is written, or waits in the output.
-use Rattle.std.proofs.Common.{ℕ, ◌≡◌, refl, sym, ap, ◌∙◌, subst, List, [], ◌++◌, append_assoc, Option}
+use Rattle.std.proofs.Common.{ℕ, ◌≡◌, refl, sym, ap, ◌∙◌, subst, List, [], ◌++◌, append_assoc, Option, take}
 use Rattle.std.specs.Prelude.{Result, Ok, Err, OnOk}
 use Rattle.std.specs.Option.{unwrap_or}
 use Rattle.std.specs.Io.KnownBytes.{Appends}
@@ -7,7 +7,8 @@ use Rattle.std.proofs.KnownBytes.{Appends-nil, Appends-trans}
 use Rattle.meaning.specs.Tables.{Tables}
 use Rattle.text.specs.Print.{transcript}
 use Rattle.text.specs.Program.{unended}
-use Rattle.filestore_text.specs.Parts.{Pending, ServesPart, Steps, PrintsLast, Hands, ServesPiece, ServesLast}
+use Rattle.text.specs.declared.lines.Pending.{Pending}
+use Rattle.filestore_text.specs.Parts.{ServesPart, Steps, PrintsLast, WritesSome, ServesPiece, ServesLast}
 use Rattle.filestore_text.specs.PartLaws.{part_none, part-behind, part_onto}
 
 -- where a result is Ok, from one fact to another
@@ -18,6 +19,9 @@ on_ok (Err e) A B f a = tt
 pub ok_so : {E : Type 0} (r : Result (Unit {0}) E) (A : Type 0) → A → OnOk r A
 ok_so (Ok x) A a = a
 ok_so (Err e) A a = tt
+
+pub nothing_waits : (at : ℕ) (bytes : List ℕ) → at ≡ 0 → take at bytes ≡ []
+nothing_waits at bytes e = rw e refl
 
 -- a piece up to a place: a part of it is served, behind which `rest` is left
 pub record SoFar (piece : List ℕ) (p₀ : Pending) (t₀ : Tables) (held₀ : Option (List ℕ)) (rest : List ℕ) (p : Pending) (t : Tables) (out : List ℕ) (held : Option (List ℕ)) : Type 0 where
@@ -46,8 +50,8 @@ module _ (piece : List ℕ) (p₀ : Pending) (t₀ : Tables) (held₀ : Option (
       }
 
   -- more of it written
-  pub hands_on : (out' : List ℕ) (held' : Option (List ℕ)) → Hands held out held' out' → SoFar piece p₀ t₀ held₀ rest p t out' held'
-  hands_on out' held' h =
+  pub writes_on : (out' : List ℕ) (held' : Option (List ℕ)) → WritesSome held out held' out' → SoFar piece p₀ t₀ held₀ rest p t out' held'
+  writes_on out' held' h =
       let same : so_far.printed ++ out ≡ (so_far.printed ++ h.written) ++ out' =
       ap (λ x. so_far.printed ++ x) h.all ∙ sym (append_assoc so_far.printed h.written out') in
       record {
@@ -59,28 +63,18 @@ module _ (piece : List ℕ) (p₀ : Pending) (t₀ : Tables) (held₀ : Option (
       }
 
   -- a write fails
-  pub cut : {E : Type 0} (why : E) (held' : Option (List ℕ)) → ServesPiece piece p₀ t₀ p t held₀ held' (Err why)
+  pub cut : {E : Type 0} (why : E) (held' : Option (List ℕ)) → ServesPiece piece rest p₀ t₀ p t held₀ held' (Err why)
   cut why held' =
-      record {
-        part = so_far.part;
-        rest = rest;
-        printed = so_far.printed ++ out;
-        all = so_far.all;
-        serves = so_far.serves;
-        whole = tt;
-        writes = tt;
-      }
+      record { part = so_far.part; all = so_far.all; whole = tt; hands = record { handed = so_far.printed ++ out; serves = so_far.serves }; writes = tt }
 
   -- the piece is served, and the last of it handed to write
-  pub whole_piece : {E : Type 0} → rest ≡ [] → (held' : Option (List ℕ)) (r : Result (Unit {0}) E) → OnOk r (Appends held held' out) → ServesPiece piece p₀ t₀ p t held₀ held' r
+  pub whole_piece : {E : Type 0} → rest ≡ [] → (held' : Option (List ℕ)) (r : Result (Unit {0}) E) → OnOk r (Appends held held' out) → ServesPiece piece rest p₀ t₀ p t held₀ held' r
   whole_piece e held' r wrote =
       record {
         part = so_far.part;
-        rest = rest;
-        printed = so_far.printed ++ out;
         all = so_far.all;
-        serves = so_far.serves;
         whole = ok_so r (rest ≡ []) e;
+        hands = record { handed = so_far.printed ++ out; serves = so_far.serves };
         writes = on_ok r (Appends held held' out) (Appends held₀ held' (so_far.printed ++ out)) (Appends-trans held₀ held held' so_far.printed out so_far.appends) wrote;
       }
 

@@ -1,6 +1,6 @@
 -- Parts served one behind another.
 use Rattle.std.specs.Prelude.{ℕ, ◌+◌, ◌≡◌, refl, List, [], ◌∷◌, ◌++◌, None, Some, take}
-use Rattle.std.proofs.Common.{sym, ap, ◌∙◌, append-nil, append_assoc}
+use Rattle.std.proofs.Common.{sym, ap, ◌∙◌, subst, append-nil, append_assoc}
 use Rattle.meaning.specs.Tables.{Tables}
 use Rattle.text.specs.Line.{asked}
 use Rattle.text.specs.Print.{transcript, served, served_as, newline}
@@ -9,8 +9,10 @@ use Rattle.text.specs.Commands.{first_of, behind}
 use Rattle.text.specs.Gathering.{Pends, first_line}
 use Rattle.text.specs.GatheringLaws.{ends_within, rest_behind, rest-shorter, all_first, completes_none, grows}
 use Rattle.text.specs.Cuts.{completed_both, remaining_both, after_both, transcript_both, line_ends, line_ended}
-use Rattle.serving.specs.Serves.{Serves}
-use Rattle.filestore_text.specs.Parts.{Pending, ServesPart, Steps}
+use Rattle.text.specs.LaysLaws.{laid_up_to}
+use Rattle.text.specs.declared.lines.Pending.{Pending}
+use Rattle.serving.specs.Serves.{Serves, ServesLine}
+use Rattle.filestore_text.specs.Parts.{ServesPart, Hands, Steps}
 
 -- ---- no line, and one line
 
@@ -64,12 +66,28 @@ part_onto handed bytes p t out p' t' out' s =
       prints = λ line h. ap (λ x. handed ++ x) (s.prints line h) ∙ sym (append_assoc handed out (transcript (completed line bytes) t));
     }
 
+-- ---- what was handed to write
+
+unfoldable pub hands_none : (p : Pending) (t : Tables) → Hands [] p t p t
+hands_none p t = record { handed = []; serves = part_none p t [] }
+
+module _ (xs ys : List ℕ) (p : Pending) (t : Tables) (p₁ : Pending) (t₁ : Tables) (p₂ : Pending) (t₂ : Tables)
+    (first : Hands xs p t p₁ t₁) (second : Hands ys p₁ t₁ p₂ t₂) where
+  unfoldable pub hands_behind : Hands (xs ++ ys) p t p₂ t₂
+  hands_behind =
+      record {
+        handed = first.handed ++ second.handed;
+        serves = part-behind xs ys p t [] p₁ t₁ first.handed p₂ t₂ (first.handed ++ second.handed) first.serves
+            (subst (λ out. ServesPart ys p₁ t₁ out p₂ t₂ (first.handed ++ second.handed)) (append-nil first.handed)
+            (part_onto first.handed ys p₁ t₁ [] p₂ t₂ second.handed second.serves));
+      }
+
 -- ---- the next line of a piece
 
-module _ (piece : List ℕ) (p : Pending) (t : Tables) (out : List ℕ) (g : Pending)
+module _ (piece : List ℕ) (p : Pending) (t : Tables) (out : List ℕ) (at : ℕ) (g : Pending)
     (appends : (before : List ℕ) → Pends before p → Pends (before ++ first_line piece) g) where
   -- the piece ends within the line
-  pub part-open : behind newline piece ≡ None → Steps piece p t out g t out None
+  pub part-open : behind newline piece ≡ None → Steps piece p t (take at out) g t (take at out) None
   part-open e =
       record {
         part = piece;
@@ -77,24 +95,24 @@ module _ (piece : List ℕ) (p : Pending) (t : Tables) (out : List ℕ) (g : Pen
         serves = record {
           pends = λ line h. rw (grows piece e line) (rw (all_first piece e) at (appends line h));
           leaves = λ line h. rw (completes_none piece e line) (sym (no_lines t));
-          prints = λ line h. rw (completes_none piece e line, no_output t) (sym (append-nil out));
+          prints = λ line h. rw (completes_none piece e line, no_output t) (sym (append-nil (take at out)));
         };
         moves = tt;
       }
 
   -- the line ends, and is served
-  pub part_line : (rest : List ℕ) → behind newline piece ≡ Some rest → (p' : Pending) → Pends [] p' → (t' : Tables) (out' : List ℕ)
-      → ((bytes : List ℕ) → Pends bytes g → Serves (asked bytes) t out t' out') → Steps piece p t out p' t' out' (Some rest)
-  part_line rest e p' f t' out' s =
+  pub part_line : (rest : List ℕ) → behind newline piece ≡ Some rest → (p' : Pending) → Pends [] p' → (t' : Tables) (out' : List ℕ) (next : ℕ)
+      → ServesLine g t out at t' out' next → Steps piece p t (take at out) p' t' (take next out') (Some rest)
+  part_line rest e p' f t' out' next s =
       let within = ends_within piece rest e in
-      let serves : (line : List ℕ) → Pends line p → Serves (asked (line ++ first_line piece)) t out t' out' = λ line h. s (line ++ first_line piece) (appends line h) in
+      let serves : (line : List ℕ) → Pends line p → Serves (asked (line ++ first_line piece)) t out at t' out' next = λ line h. s.serves (line ++ first_line piece) (appends line h) in
       record {
         part = take (first_of newline piece + 1) piece;
         all = rest_behind piece rest e;
         serves = record {
           pends = λ line h. rw (line_ended piece line within) f;
           leaves = λ line h. rw (line_ends piece line within, one_line (line ++ first_line piece) t) (serves line h).leaves;
-          prints = λ line h. rw (line_ends piece line within, one_output (line ++ first_line piece) t) ((serves line h).prints ∙ append_assoc out _ (newline ∷ []));
+          prints = λ line h. rw (line_ends piece line within, one_output (line ++ first_line piece) t) (laid_up_to _ _ _ _ _ (serves line h).lays);
         };
         moves = rest-shorter piece rest e;
       }

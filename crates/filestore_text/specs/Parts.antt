@@ -1,21 +1,22 @@
 -- The input served part by part. A part may end anywhere, within a line too.
-use Rattle.std.specs.Prelude.{ℕ, ◌<◌, ◌≡◌, List, [], ◌++◌, Bool, true, false, Option, IfSome, Result, OnOk, length}
+use Rattle.std.specs.Prelude.{ℕ, ◌<◌, ◌≡◌, List, [], ◌++◌, Bool, true, false, Option, IfSome, Result, OnOk, length, take}
 use Rattle.std.specs.Option.{unwrap_or}
 use Rattle.std.specs.Io.KnownBytes.{Appends}
-use Rattle.arrayvec.specs.ArrayVec.{ArrayVec}
 use Rattle.meaning.specs.Tables.{Tables, tables}
 use Rattle.text.specs.Print.{transcript}
 use Rattle.text.specs.Program.{completed, remaining, unended, lines, after_lines, at_start}
 use Rattle.text.specs.Gathering.{Pends}
+use Rattle.text.specs.declared.lines.Pending.{Pending}
 use Rattle.filestore_text.specs.declared.Store.{Store}
+use Rattle.filestore_text.specs.declared.buffer.Output.{Output}
 
 -- the tables of the program's store
 abbrev pub tables_in : Store → Tables
 tables_in store = tables store.blocks store.block_records store.file_records store.channel_records
 
--- a line so far, as the code keeps it
-abbrev pub Pending : Type 0
-Pending = Option (ArrayVec ℕ)
+-- what is printed and not yet written
+abbrev pub waiting : Output → List ℕ
+waiting out = take out.at out.bytes
 
 -- A part of the input served, from one moment to a later one. Whatever line has come before the part: the tables are those that
 -- the lines that end in it leave, what they print stands behind what was printed, and what is left of the part is the line so far.
@@ -36,26 +37,30 @@ pub record PrintsLast (p : Pending) (t : Tables) (out : List ℕ) (t' : Tables) 
   pub leaves : (line : List ℕ) → Pends line p → t' ≡ after_lines (unended line) t
   pub prints : (line : List ℕ) → Pends line p → out' ≡ out ++ transcript (unended line) t
 
--- ---- written: bytes that a writer holds are known at both moments, or nothing is said of them
+-- ---- handed to write, and written: bytes that a writer holds are known at both moments, or nothing is said of them
+
+-- A part served by any number of steps, each of which hands its output to write: `handed` is all of it, one step's behind another's.
+-- No value of the program holds that row, so it is only said to be there; what one step hands over is what waits in the output (`Steps`).
+pub record Hands (bytes : List ℕ) (p : Pending) (t : Tables) (p' : Pending) (t' : Tables) : Type 0 where
+  pub handed : List ℕ
+  pub serves : ServesPart bytes p t [] p' t' handed
 
 -- what waited in the output is written, up to what waits still
-pub record Hands (held : Option (List ℕ)) (out : List ℕ) (held' : Option (List ℕ)) (out' : List ℕ) : Type 0 where
+pub record WritesSome (held : Option (List ℕ)) (out : List ℕ) (held' : Option (List ℕ)) (out' : List ℕ) : Type 0 where
   pub written : List ℕ
   pub appends : Appends held held' written
   pub all : out ≡ written ++ out'
 
--- A piece served up to a place: to its end, and with all that is printed written, where no write fails. A failed write ends it earlier,
--- and the bytes up to there are served all the same.
-pub record ServesPiece {E : Type 0} (piece : List ℕ) (p : Pending) (t : Tables) (p' : Pending) (t' : Tables) (held held' : Option (List ℕ)) (r : Result (Unit {0}) E) : Type 0 where
+-- A piece served up to a place, behind which `rest` is left: to its end, and with all that is handed to write written, where no write fails.
+-- A failed write ends it earlier, and the bytes up to there are served all the same.
+pub record ServesPiece {E : Type 0} (piece rest : List ℕ) (p : Pending) (t : Tables) (p' : Pending) (t' : Tables) (held held' : Option (List ℕ)) (r : Result (Unit {0}) E) : Type 0 where
   pub part : List ℕ
-  pub rest : List ℕ
-  pub printed : List ℕ
   pub all : piece ≡ part ++ rest
-  pub serves : ServesPart part p t [] p' t' printed
   pub whole : OnOk r (rest ≡ [])
-  pub writes : OnOk r (Appends held held' printed)
+  pub hands : Hands part p t p' t'
+  pub writes : OnOk r (Appends held held' hands.handed)
 
--- The same of the line that the input's end ends.
+-- The line that the input's end ends, if there is one, is served, and written where no write fails.
 pub record ServesLast {E : Type 0} (p : Pending) (t t' : Tables) (held held' : Option (List ℕ)) (r : Result (Unit {0}) E) : Type 0 where
   pub leaves : (line : List ℕ) → Pends line p → t' ≡ after_lines (unended line) t
   pub writes : (line : List ℕ) → Pends line p → OnOk r (Appends held held' (transcript (unended line) t))
@@ -68,7 +73,8 @@ served_of true input = lines input
 served_of false input = completed [] input
 
 -- `input` is all that was read and served, and `handed` all that was handed to write (`written input` where it has ended). Both are only said to be there:
--- where it is known which bytes a reader has left and a writer holds, `MovesAll` names them.
+-- where it is known which bytes a reader has left, `ServesGiven` says that they are those that it gave, and `MovesAll` names them and what is written
+-- where all of it is.
 pub record ServesInput (t : Tables) (ended : Bool) : Type 0 where
   pub input : List ℕ
   pub handed : List ℕ

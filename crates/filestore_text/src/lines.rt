@@ -1,14 +1,13 @@
 // The lines of the input, served one after another. What they print waits in the output.
 ghost use Rattle.std.specs.Prelude.{◌+◌, ◌≤◌};
 ghost use Rattle.std.specs.Option.{option_copied};
-ghost use Rattle.arrayvec.specs.ArrayVec.{array_vec_len};
 ghost use Rattle.serving.specs.Serves.{line_room};
-ghost use Rattle.filestore_text.specs.Parts.{tables_in, Steps, PrintsLast};
+ghost use Rattle.filestore_text.specs.Parts.{tables_in, waiting, Steps, PrintsLast};
 
 use crate::Store;
+use crate::buffer::{OUTPUT, Output};
 use serving::serve_line;
 use text::lines::{Pending, begin, gather, has_line};
-use text::print::{OUTPUT, Output};
 
 // To the end of the line, which is served, or of the piece. The answer is the rest of the piece where the line ends.
 pub fn serve_next<'a>(
@@ -17,17 +16,18 @@ pub fn serve_next<'a>(
     piece: &'a [u8],
     out: &mut Output,
 ) -> Option<&'a [u8]>
-    requires { array_vec_len out.old + line_room ≤ OUTPUT }
-    ensures { Steps piece.now line.old (tables_in store.old) out.old.items line.new (tables_in store.new) out.new.items (option_copied result) }
+    requires { out.old.at + line_room ≤ OUTPUT }
+    ensures { Steps piece.now line.old (tables_in store.old) (waiting out.old) line.new (tables_in store.new) (waiting out.new) (option_copied result) }
 {
     let rest = gather(line, piece)?;
-    serve_line(
+    out.at = serve_line(
         &mut store.blocks,
         &mut store.block_records,
         &mut store.file_records,
         &mut store.channel_records,
         line,
-        out,
+        &mut out.bytes,
+        out.at,
     );
     begin(line);
     Some(rest)
@@ -35,17 +35,18 @@ pub fn serve_next<'a>(
 
 // The line that the input's end ends, if there is one.
 pub fn serve_last(store: &mut Store, line: &Pending, out: &mut Output)
-    requires { array_vec_len out.old + line_room ≤ OUTPUT }
-    ensures { PrintsLast line.now (tables_in store.old) out.old.items (tables_in store.new) out.new.items }
+    requires { out.old.at + line_room ≤ OUTPUT }
+    ensures { PrintsLast line.now (tables_in store.old) (waiting out.old) (tables_in store.new) (waiting out.new) }
 {
     if has_line(line) {
-        serve_line(
+        out.at = serve_line(
             &mut store.blocks,
             &mut store.block_records,
             &mut store.file_records,
             &mut store.channel_records,
             line,
-            out,
+            &mut out.bytes,
+            out.at,
         );
     }
 }

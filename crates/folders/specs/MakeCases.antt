@@ -65,9 +65,9 @@ module _ (t : Tables) (bytes : List ℕ) where
     not_deep : eqb (length a.name) most_syllables ≡ false
     not_deep = ne_eqb (length a.name) most_syllables (λ e. few (sym a.count ∙ e))
 
-    pub no_directory : x ≡ Nowhere → Made t bytes (Err NoSuchName)
+    pub no_directory : (p : Option FileNo) → x ≡ Nowhere p → Made t bytes (Err NoSuchName)
     unfolding unless
-    no_directory e = refused_by NoSuchName (rw (not_deep, (is_nowhere t bytes k x a e).1) at given)
+    no_directory p e = refused_by NoSuchName (rw (not_deep, (is_nowhere t bytes k x a p e).1) at given)
 
     pub is_in_use : (d f : FileNo) → x ≡ Old d f → Made t bytes (Err NameInUse)
     unfolding unless

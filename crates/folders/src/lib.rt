@@ -68,7 +68,7 @@ fn decide_new(store: &Lent, name: &[u8], d: FileNo) -> Result<(FileNo, usize, Fi
     requires { NewName (tables_of store.now) name.now d }
     ensures { Made (tables_of store.now) name.now result }
 {
-    let new = find_file(store.file_records, Kind::Free).ok_or(Report::NoFreeFids)?;
+    let new = find_file(store.file_records, Kind::Free as u8).ok_or(Report::NoFreeFids)?;
     let i = new_record(store, name, d);
     record_fits(store, d, i)?;
     let depth = file_record(store.file_records, d).depth;
@@ -84,7 +84,7 @@ fn decide_mkdir(store: &Lent, name: &[u8]) -> Result<(FileNo, usize, FileNo, u8)
         return Err(Report::BadName);
     }
     match locate(store, name, k) {
-        Located::Nowhere => Err(Report::NoSuchName),
+        Located::Nowhere(_) => Err(Report::NoSuchName),
         Located::Old(_, _) => Err(Report::NameInUse),
         Located::New(d) => decide_new(store, name, d),
     }

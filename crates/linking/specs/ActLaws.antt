@@ -109,7 +109,7 @@ module _ (t : Tables) (old new : List ℕ) (p : Plan) (a : Accepted t old new p)
       (ne_eqb g 0 d)
       (plain_other s well size_of new to a.new-name.is a.plain)
 
-  goes_is : freed (goes p) ≡ pick (lone s g && not (eqb g f)) (file g no_file ∷ []) []
+  pub goes_is : freed (goes p) ≡ pick (lone s g && not (eqb g f)) (file g no_file ∷ []) []
   unfolding goes
   goes_is =
       freed_unlike s g p.gone a.gone_is p.file

@@ -16,7 +16,7 @@ abbrev numbered : ℕ → FileNo
 numbered g = record { 0 = g }
 
 -- a file goes with its name where it is alone
-gone_lone : (s : Store) (g : ℕ) → file_numbered (gone_with s g) ≡ pick (lone s g) (Some (numbered g)) None
+pub gone_lone : (s : Store) (g : ℕ) → file_numbered (gone_with s g) ≡ pick (lone s g) (Some (numbered g)) None
 unfolding gone_with lone file_numbered
 gone_lone s g = go g (eqb (names s g) 1 && not (held s g))
   where

@@ -26,7 +26,7 @@ use Rattle.placing.specs.Room as R
 use Rattle.linking.specs.Names.{Both, FindsNames}
 use Rattle.linking.specs.NewName.{NewName, OnNewName}
 use Rattle.linking.specs.Link.{Accepted, link_given, DecidesLink}
-use Rattle.linking.specs.LinkRest.{follows, link_rest, on_link}
+use Rattle.linking.specs.LinkRest.{follows, link_rest, on_link, link-refusal}
 use Rattle.linking.specs.ActLaws.{means}
 use Rattle.linking.specs.declared.Plan.{Plan}
 
@@ -42,7 +42,7 @@ module _ (b br fr cr old new : List ℕ) where
   refuse why e = refusing (link_given t new) (Accepted t old new) (result_of (Call.Link old new) t) why e
 
   pub no_names : (why : Report) → FindsNames t old new (Err why) → DecidesLink t old new (Err why)
-  no_names why e = refuse why (e (link_rest t) ∙ on_link t old new)
+  no_names why e = refuse why (link-refusal t old new why e)
 
   module _ (x y : Located) (both : Both t old new x y) where
     abbrev from : List (List ℕ)
@@ -51,7 +51,7 @@ module _ (b br fr cr old new : List ℕ) where
     abbrev to : List (List ℕ)
     to = both.new-name.at.name
 
-    is_sound : sound t ≡ true
+    pub is_sound : sound t ≡ true
     is_sound = both.new-name.at.ok
 
     given : link_rest t from to ≡ result_of (Call.Link old new) t

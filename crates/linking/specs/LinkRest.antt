@@ -7,9 +7,10 @@ use Rattle.meaning.specs.Name.{syllables}
 use Rattle.meaning.specs.Store.{file, after, is_directory, free_blocks, named, let_go}
 use Rattle.meaning.specs.Tables.{Tables, store_of}
 use Rattle.meaning.specs.Sound.{sound}
-use Rattle.meaning.specs.Result.{Result, done, unless, with_syllables, missing, nowhere, if_fits}
+use Rattle.meaning.specs.Result.{Result, refused, done, unless, with_syllables, missing, nowhere, if_fits}
 use Rattle.meaning.specs.NameCalls.{parent, naming, if_naming_fits, link}
 use Rattle.meaning.specs.Run.{Call, result_of, meaning, accepts}
+use Rattle.meaning.specs.declared.Report.{Report}
 use Rattle.meaning.specs.declared.Report.TheVariants.{NoSuchName, IsDirectory}
 use Rattle.trees.specs.Naming.{with_name}
 use Rattle.linking.specs.Names.{on_names}
@@ -37,6 +38,10 @@ link_rest t from to =
 pub on_link : (t : Tables) (old new : List ℕ) → on_names t old new (link_rest t) ≡ result_of (Call.Link old new) t
 unfolding result_of meaning accepts link on_names
 on_link t old new = refl
+
+pub link-refusal : (t : Tables) (old new : List ℕ) (why : Report) → ((rest : List (List ℕ) → List (List ℕ) → Result) → refused why ≡ on_names t old new rest)
+    → refused why ≡ result_of (Call.Link old new) t
+link-refusal t old new why e = e (link_rest t) ∙ on_link t old new
 
 -- where no cause holds, link gives its changes
 pub link_on : (t : Tables) (old new : List ℕ) (p : Plan) (a : Accepted t old new p)

@@ -77,7 +77,7 @@ module _ (t : Tables) (old new : List ℕ) (p : Plan) (i : ℕ) (m : Movable t o
   abbrev g : ℕ
   g = named s a.new-name.name
 
-  last_is : freed (last_goes p) ≡ pick (lone s g && eqb g (named s from)) (file p.file.0 no_file ∷ []) []
+  pub last_is : freed (last_goes p) ≡ pick (lone s g && eqb g (named s from)) (file p.file.0 no_file ∷ []) []
   unfolding last_goes
   last_is =
       freed_like s g p.gone a.gone_is p.file

@@ -1,11 +1,11 @@
 -- A name that a file is to get, by the cases of where it stands.
-use Rattle.std.specs.Prelude.{ℕ, ◌≡◌, refl, ◌≢◌, List, Bool, true, false, Option, None, Ok, Err}
-use Rattle.std.proofs.Common.{ap, subst, ◌∙◌, arith}
+use Rattle.std.specs.Prelude.{ℕ, ◌≤◌, ◌≡◌, refl, ◌≢◌, List, Bool, true, false, Option, None, Ok, Err}
+use Rattle.std.proofs.Common.{ap, sym, subst, ◌∙◌, arith}
 use Rattle.std.proofs.Math.Option.{some}
 use Rattle.records.specs.Rows.{pick}
 use Rattle.meaning.specs.Name.{syllables}
-use Rattle.meaning.specs.Store.{Store, root, is_directory, in_use, named}
-use Rattle.meaning.specs.Tables.{Tables, tables, store_of}
+use Rattle.meaning.specs.Store.{Store, root, is_directory, named}
+use Rattle.meaning.specs.Tables.{Tables, tables, store_of, file_count}
 use Rattle.meaning.specs.Types.{file_numbered, none-numbered}
 use Rattle.meaning.specs.Result.{unless, nowhere}
 use Rattle.meaning.specs.declared.FileNo.{FileNo}
@@ -27,16 +27,12 @@ use Rattle.naming.specs.At as A
 use Rattle.naming.specs.InStore.{found_record, located_old}
 use Rattle.naming.specs.declared.Located.{Located}
 use Rattle.naming.specs.declared.Located.TheVariants.{Nowhere, New, Old}
-use Rattle.placing.specs.Free.{sized}
+use Rattle.placing.specs.Free.{sized, no_directory}
 use Rattle.placing.specs.NewName.{new_place}
 use Rattle.linking.specs.Names.{Here}
 use Rattle.linking.specs.NewName.{NewName, OnNewName}
 
--- nothing is no directory, and nothing goes with it
-no_directory : (s : Store) (f : ℕ) → f ≡ 0 → is_directory s f ≡ false
-unfolding is_directory in_use
-no_directory s f e = rw e
-
+-- with no file none goes
 none_goes : (s : Store) (f : ℕ) → f ≡ 0 → gone_with s f ≡ 0
 unfolding gone_with
 none_goes s f e = go _ f e
@@ -44,6 +40,11 @@ none_goes s f e = go _ f e
     go : (b : Bool) (f : ℕ) → f ≡ 0 → pick b f 0 ≡ 0
     go true f e = e
     go false f e = refl
+
+-- what the search for a located name's record asks
+pub record InPlace (b br fr bytes : List ℕ) (x : Located) : Type 0 where
+  pub new-name : (d : FileNo) → x ≡ New d → NewIn b br fr bytes d.0
+  pub old-name : (d f : FileNo) → x ≡ Old d f → OldIn b br fr bytes d.0
 
 module _ (b br fr cr bytes : List ℕ) (x : Located) (h : Here (tables b br fr cr) bytes x) where
   abbrev t : Tables
@@ -68,10 +69,10 @@ module _ (b br fr cr bytes : List ℕ) (x : Located) (h : Here (tables b br fr c
   spells : Spelled t bytes h.k
   spells = record { ok = h.at.ok; counted = h.counted }
 
-  pub new-nowhere : x ≡ Nowhere → OnNewName t bytes (Err NoSuchName)
+  pub new-nowhere : (p : Option FileNo) → x ≡ Nowhere p → OnNewName t bytes (Err NoSuchName)
   unfolding unless
-  new-nowhere e n is r =
-      let gone : nowhere s n ≡ true = of_name (λ n. nowhere s n ≡ true) (A.is_nowhere t bytes h.k x h.at e).1 n is in
+  new-nowhere p e n is r =
+      let gone : nowhere s n ≡ true = of_name (λ n. nowhere s n ≡ true) (A.is_nowhere t bytes h.k x h.at p e).1 n is in
       rw gone
 
   -- a new name
@@ -128,6 +129,10 @@ module _ (b br fr cr bytes : List ℕ) (x : Located) (h : Here (tables b br fr c
           let u = used s (named s name) (named_used s well size_of bytes name h.at.is (A.not_missing t bytes h.k x h.at d f e)) in
           of_store t h.at.ok f.0 (omega (arith, u.within, A.stands_for t bytes h.k x h.at d f e))
 
+      -- the file that the name stands for is one of the tables'
+      pub replaced_few : f.0 ≤ file_count fr
+      replaced_few = can_count.to_last
+
       pub replaced : (i : ℕ) → Recorded (filed b br fr) bytes i → (gone : Option FileNo) → gone ≡ file_numbered (gone_with s f.0) → OnNewName t bytes (Ok (d, i, gone))
       replaced i r gone is =
           of_name (λ n. NewName s n d i gone)
@@ -138,3 +143,11 @@ module _ (b br fr cr bytes : List ℕ) (x : Located) (h : Here (tables b br fr c
             place = found_record b br fr cr bytes h.k x h.at i r;
             gone_is = is ∙ ap (λ (g : ℕ). file_numbered (gone_with s g)) (A.stands_for t bytes h.k x h.at d f e);
           })
+
+  -- its directory can be searched for the name's record, or for room for one
+  pub in_place : is_directory s (named s name) ≡ false → InPlace b br fr bytes x
+  in_place plain =
+      record {
+        new-name = λ d e. can_add d e;
+        old-name = λ d f e. can_replace d f e (is_directory (files_store fr) f.0) refl (sym (old_is d f e (is_directory (files_store fr) f.0) refl) ∙ plain);
+      }

@@ -43,7 +43,7 @@ fn judge_new(
     ensures { OnNewName (tables_of store.now) new.now result }
 {
     match at {
-        Located::Nowhere => Err(Report::NoSuchName),
+        Located::Nowhere(_) => Err(Report::NoSuchName),
         Located::New(d) => Ok((d, new_record(store, new, d), None)),
         Located::Old(d, g) => {
             if is_directory(store.file_records, g) {

@@ -12,6 +12,14 @@ use Rattle.records.specs.Rows.{pick, tally, how_many, sum}
 use Rattle.directories.specs.Find.{blank_at}
 use Rattle.listing.specs.Names.{rows, name_at}
 
+-- how many pass, where the indices are split
+pub how_many-split : (p : ℕ → Bool) (a b : ℕ) → how_many (a + b) p ≡ how_many a p + how_many b (λ j. p (a + j))
+unfolding how_many sum
+how_many-split p a zero = let e : a + 0 ≡ a = omega arith in rw e (omega arith)
+how_many-split p a (suc b) =
+    let e : a + suc b ≡ suc (a + b) = omega arith in
+    rw e (omega (arith, how_many-split p a b))
+
 module _ (g : ℕ → List ℕ) where
   pub rows_next : (n : ℕ) → rows (n + 1) g ≡ rows n g ++ g n
   unfolding rows

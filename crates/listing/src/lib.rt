@@ -8,7 +8,7 @@ ghost use Rattle.meaning.specs.File.{over};
 ghost use Rattle.meaning.specs.Run.{KeepsInto, Call};
 ghost use Rattle.meaning.specs.Answers.{counted};
 ghost use Rattle.directories.specs.Find.{Lies};
-ghost use Rattle.listing.specs.Names.{name_at, place_count, place_names};
+ghost use Rattle.listing.specs.Names.{name_at, run_names, place_count, place_names};
 ghost use Rattle.listing.specs.List.{Decided};
 
 use blocks::copy_run;
@@ -42,6 +42,20 @@ fn lay_name(blocks: &[u8], at: usize, buffer: &mut [u8], to: usize) -> usize
     to + LONGEST_SYLLABLE
 }
 
+// The names of n records from a place on laid into a buffer, from byte `to` on. It answers where they end.
+fn lay_names_in_run(blocks: &[u8], at: usize, n: usize, buffer: &mut [u8], to: usize) -> usize
+    requires run_in_bounds { (at + 16 * n ≤ length blocks.now) × (n ≤ 32) }
+    requires room_in_bounds { to + length (run_names blocks.now at n) ≤ length buffer.old }
+    ensures value { result ≡ to + length (run_names blocks.now at n) }
+    ensures buffer_after { buffer.new ≡ sets buffer.old to (run_names blocks.now at n) }
+{
+    let mut end = to;
+    for j in 0..n {
+        end = lay_name(blocks, at + 16 * j, buffer, end);
+    }
+    end
+}
+
 // The names of directory d laid at the head of a buffer, in record order. The runs are gone through as in directories::count_records:
 // a walk for both would take a closure that changes the buffer, and more clauses about it than these are lines.
 fn lay_names(store: &Lent, d: FileNo, count: usize, buffer: &mut [u8])
@@ -52,9 +66,8 @@ fn lay_names(store: &Lent, d: FileNo, count: usize, buffer: &mut [u8])
     let mut end = 0;
     for k in 0..count.div_ceil(32) {
         let at = place_start(store.block_records, d, k as u16);
-        for j in 0..run_size(count, k) {
-            end = lay_name(store.blocks, at + 16 * j, buffer, end);
-        }
+        let n = run_size(count, k);
+        end = lay_names_in_run(store.blocks, at, n, buffer, end);
     }
 }
 

@@ -57,9 +57,13 @@ pub fn name_form(name: &[u8]) -> Option<usize>
 pub fn last_syllable(name: &[u8]) -> &[u8]
     ensures { result.now ≡ part name.now (last_start name.now) (length name.now) }
 {
-    match name.iter().rposition(|b| *b == b'/') {
-        Some(k) => &name[k + 1..],
-        None => name,
+    let mut at = 0;
+    loop {
+        let taken = take_syllable(name, at);
+        if taken.end == name.len() {
+            return &name[at..];
+        }
+        at = taken.next;
     }
 }
 

@@ -1,5 +1,5 @@
 -- A name of a sound store, judged and located: what the calls on names go by.
-use Rattle.std.specs.Prelude.{ℕ, ◌≡◌, refl, ◌≢◌, List, Bool, true, false, length, Ok}
+use Rattle.std.specs.Prelude.{ℕ, ◌≡◌, refl, ◌≢◌, List, Bool, true, false, length, Option, Ok}
 use Rattle.std.proofs.Common.{ap, sym, ◌∙◌}
 use Rattle.std.proofs.Math.Option.{some}
 use Rattle.meaning.specs.Name.{syllables}
@@ -8,13 +8,14 @@ use Rattle.meaning.specs.Tables.{Tables, tables, store_of}
 use Rattle.meaning.specs.Sound.{sound}
 use Rattle.meaning.specs.Result.{Result, unless, with_syllables, missing, nowhere}
 use Rattle.meaning.specs.NameCalls.{parent}
+use Rattle.meaning.specs.Types.{file_or_zero}
 use Rattle.meaning.specs.declared.FileNo.{FileNo}
 use Rattle.names.specs.FormLaws.{Counted}
 use Rattle.soundness.specs.Seen.{files_store, is_directory-seen}
 use Rattle.lookup.specs.Walk.{named-walk}
 use Rattle.lookup.specs.Filed.{filed, Shelves, shelves, walk-seen, directory-seen}
 use Rattle.naming.specs.Judged.{Judged, Spelled, OnName, on_name_of, spelled}
-use Rattle.naming.specs.Located.{Locates, located, nowhere_is, new_missing, new_unnamed, new_directory, new_in, new_somewhere, old_there, old_in, old_file, old_somewhere}
+use Rattle.naming.specs.Located.{Locates, located, nowhere_is, nowhere_unnamed, nowhere_in, new_missing, new_unnamed, new_directory, new_in, new_somewhere, old_there, old_in, old_file, old_somewhere}
 use Rattle.naming.specs.declared.Located.{Located}
 use Rattle.naming.specs.declared.Located.TheVariants.{Nowhere, New, Old}
 
@@ -60,8 +61,25 @@ module _ (t : Tables) (bytes : List ℕ) (k : ℕ) (x : Located) (a : At t bytes
   abbrev s : Store
   s = store_of t
 
-  pub is_nowhere : x ≡ Nowhere → (missing s a.name ≡ true) × (nowhere s a.name ≡ true)
-  is_nowhere e = nowhere_is s a.name x a.stands e
+  -- a file is a directory, as its record has it
+  record-directory : (f g : ℕ) → f ≡ g → (v : Bool) → v ≡ is_directory (files_store t.file_records) f → is_directory s g ≡ v
+  record-directory f g same v e = ap (is_directory s) (sym same) ∙ is_directory-seen t f ∙ sym e
+
+  -- a new name without its directory
+  module _ (p : Option FileNo) (at : x ≡ Nowhere p) where
+    pub is_nowhere : (missing s a.name ≡ true) × (nowhere s a.name ≡ true)
+    is_nowhere = nowhere_is s a.name x a.stands p at
+
+    pub nowhere_stands : named s a.name ≡ 0
+    nowhere_stands = nowhere_unnamed s a.name x a.stands p at
+
+    -- what stands where its directory would be
+    pub nowhere_dir : file_or_zero p ≡ parent s a.name
+    nowhere_dir = nowhere_in s a.name x a.stands p at
+
+    -- it is a directory, or is not
+    pub nowhere-parent-directory : (v : Bool) → v ≡ is_directory (files_store t.file_records) (file_or_zero p) → is_directory s (parent s a.name) ≡ v
+    nowhere-parent-directory = record-directory (file_or_zero p) (parent s a.name) nowhere_dir
 
   -- a new name in a directory
   module _ (d : FileNo) (at : x ≡ New d) where
@@ -91,16 +109,20 @@ module _ (t : Tables) (bytes : List ℕ) (k : ℕ) (x : Located) (a : At t bytes
     pub old_dir : d.0 ≡ parent s a.name
     old_dir = old_in s a.name x a.stands d f at
 
+    -- the directory is one, or is not
+    pub old-parent-directory : (v : Bool) → v ≡ is_directory (files_store t.file_records) d.0 → is_directory s (parent s a.name) ≡ v
+    old-parent-directory = record-directory d.0 (parent s a.name) old_dir
+
     pub stands_for : f.0 ≡ named s a.name
     stands_for = old_file s a.name x a.stands d f at
 
     -- it is a directory, or is not
     pub file-directory : (v : Bool) → v ≡ is_directory (files_store t.file_records) f.0 → is_directory s (named s a.name) ≡ v
-    file-directory v e = ap (is_directory s) (sym stands_for) ∙ is_directory-seen t f.0 ∙ sym e
+    file-directory = record-directory f.0 (named s a.name) stands_for
 
   -- a name that stands for no file
   not_old_is : (y : Located) → x ≡ y → ((d f : FileNo) → y ≢ Old d f) → missing s a.name ≡ true
-  not_old_is Nowhere e other = (is_nowhere e).0
+  not_old_is (Nowhere p) e other = (is_nowhere p e).0
   not_old_is (New d) e other = is_missing d e
   not_old_is (Old d f) e other = absurd (other d f refl)
 

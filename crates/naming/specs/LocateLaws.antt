@@ -17,6 +17,7 @@ use Rattle.meaning.specs.Store.{Store, root, within, named, named_back, is_direc
 use Rattle.meaning.specs.Result.{missing}
 use Rattle.meaning.specs.NameCalls.{parent, record_for}
 use Rattle.meaning.specs.Tables.{file_length}
+use Rattle.meaning.specs.Types.{file_numbered}
 use Rattle.names.specs.FormLaws.{Counted}
 use Rattle.names.specs.Syllables.{part, syllables_from, Reaches, last_start}
 use Rattle.names.specs.ReadLaws.{read}
@@ -97,11 +98,11 @@ module _ (bytes : List ℕ) (k : ℕ) (c : Counted (syllables bytes) k) where
           (eq-eqb (named s n) 0 (sym file_is ∙ none_so), ap (is_directory s) (sym directory_is) ∙ isnt)
 
     module _ (some' : k ≢ 0) where
-      pub at_nowhere : is_directory s d ≡ false → Locates s bytes Nowhere
+      pub at_nowhere : is_directory s d ≡ false → (p : Option' FileNo) → p ≡ file_numbered d → Locates s bytes (Nowhere p)
       unfolding located
-      at_nowhere isnt n is =
+      at_nowhere isnt p in_its_place n is =
           let facts = nothing_within some' n is isnt in
-          rw (facts.0, facts.1)
+          rw (facts.0, facts.1) (ap Nowhere (in_its_place ∙ ap file_numbered (directory_is some' n is)))
 
       module _ (e : FileNo) (in_d : e.0 ≡ d) (there : is_directory s e.0 ≡ true) where
         in_parent : (n : List (List ℕ)) → syllables bytes ≡ some n → is_directory s (parent s n) ≡ true

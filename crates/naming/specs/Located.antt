@@ -1,5 +1,5 @@
 -- Where a name stands: its directory, its file, its record.
-use Rattle.std.specs.Prelude.{ℕ, ◌≡◌, refl, ◌≢◌, List, Bool, true, false}
+use Rattle.std.specs.Prelude.{ℕ, ◌≡◌, refl, ◌≢◌, List, Bool, true, false, Option}
 use Rattle.std.proofs.Common.{ap, sym, ◌∙◌, arith, ne_eqb, ⊎_elim, true≢false}
 use Rattle.records.specs.Tests.{same_or_not}
 use Rattle.std.proofs.Math.Option.{some}
@@ -8,6 +8,7 @@ use Rattle.meaning.specs.Name.{syllables}
 use Rattle.meaning.specs.Store.{Store, is_directory, named}
 use Rattle.meaning.specs.Result.{missing, nowhere}
 use Rattle.meaning.specs.NameCalls.{parent, record_for}
+use Rattle.meaning.specs.Types.{file_numbered, file_or_zero, or_zero_is}
 use Rattle.meaning.specs.declared.FileNo.{FileNo}
 use Rattle.names.specs.FormLaws.{Counted}
 use Rattle.lookup.specs.Filed.{filed, Shelves}
@@ -17,11 +18,11 @@ use Rattle.naming.specs.declared.Located.TheVariants.{Nowhere, New, Old}
 abbrev pub file_no : ℕ → FileNo
 file_no n = record { 0 = n }
 
--- no directory for the name; a directory in which it is new; or its directory and its file
+-- no directory for the name, and what stands in its place; a directory in which it is new; or its directory and its file
 unfoldable pub located : Store → List (List ℕ) → Located
 located s name =
     let d = parent s name in
-    pick (missing s name) (pick (is_directory s d) (New (file_no d)) Nowhere) (Old (file_no d) (file_no (named s name)))
+    pick (missing s name) (pick (is_directory s d) (New (file_no d)) (Nowhere (file_numbered d))) (Old (file_no d) (file_no (named s name)))
 
 -- where the name that some bytes spell stands
 abbrev pub Locates : Store → List ℕ → Located → Type 0
@@ -50,6 +51,9 @@ OldIn blocks records files bytes d = In blocks records files bytes d false
 -- ---- what each case says
 
 -- the cases are known by their parts
+nowhere_one : (p q : Option FileNo) → Nowhere p ≡ Nowhere q → p ≡ q
+nowhere_one p q is = cc
+
 new_one : (d e : FileNo) → New d ≡ New e → d.0 ≡ e.0
 new_one d e is = let same : d ≡ e = cc in ap (λ (f : FileNo). f.0) same
 
@@ -59,8 +63,17 @@ old_one d e f g is =
     let as_well : f ≡ g = cc in
     (ap (λ (f : FileNo). f.0) same, ap (λ (f : FileNo). f.0) as_well)
 
+-- a missing name stands for no file
+no_name : (s : Store) (name : List (List ℕ)) → missing s name ≡ true → named s name ≡ 0
+unfolding missing
+no_name s name gone =
+    ⊎_elim
+    (λ (z : named s name ≡ 0). z)
+    (λ (z : named s name ≢ 0). let no : true ≡ false = sym gone ∙ ne_eqb (named s name) 0 z in absurd (true≢false no))
+    (same_or_not (named s name) 0)
+
 abbrev is_old : Located → ℕ
-is_old Nowhere = 0
+is_old (Nowhere p) = 0
 is_old (New d) = 1
 is_old (Old d f) = 2
 
@@ -69,18 +82,26 @@ module _ (s : Store) (name : List (List ℕ)) (x : Located) (is : x ≡ located 
   d = parent s name
 
   -- by whether the name is missing and its directory is there
-  by_tests : (m v : Bool) → missing s name ≡ m → is_directory s d ≡ v → x ≡ pick m (pick v (New (file_no d)) Nowhere) (Old (file_no d) (file_no (named s name)))
+  by_tests : (m v : Bool) → missing s name ≡ m → is_directory s d ≡ v → x ≡ pick m (pick v (New (file_no d)) (Nowhere (file_numbered d))) (Old (file_no d) (file_no (named s name)))
   unfolding located
   by_tests m v e t = rw (e, t) at is
 
-  pub nowhere_is : x ≡ Nowhere → (missing s name ≡ true) × (nowhere s name ≡ true)
-  unfolding nowhere parent
-  nowhere_is e = go (missing s name) (is_directory s d) refl refl
-    where
-      go : (m v : Bool) → missing s name ≡ m → is_directory s d ≡ v → (missing s name ≡ true) × (nowhere s name ≡ true)
-      go true false p q = (p, rw (p, q))
-      go true true p q = let z : ◌≡◌ {A = ℕ} 0 1 = ap is_old (sym e ∙ by_tests true true p q) in absurd (omega arith)
-      go false v p q = let z : ◌≡◌ {A = ℕ} 0 2 = ap is_old (sym e ∙ by_tests false v p q) in absurd (omega arith)
+  module _ (p : Option FileNo) (at : x ≡ Nowhere p) where
+    nowhere_facts : (m v : Bool) → missing s name ≡ m → is_directory s d ≡ v → (m ≡ true) × (v ≡ false) × (p ≡ file_numbered d)
+    nowhere_facts true false q r = (refl, refl, nowhere_one p (file_numbered d) (sym at ∙ by_tests true false q r))
+    nowhere_facts true true q r = let z : ◌≡◌ {A = ℕ} 0 1 = ap is_old (sym at ∙ by_tests true true q r) in absurd (omega arith)
+    nowhere_facts false v q r = let z : ◌≡◌ {A = ℕ} 0 2 = ap is_old (sym at ∙ by_tests false v q r) in absurd (omega arith)
+
+    pub nowhere_is : (missing s name ≡ true) × (nowhere s name ≡ true)
+    unfolding nowhere parent
+    nowhere_is = let facts = nowhere_facts _ _ refl refl in (facts.0, rw (facts.0, facts.1))
+
+    pub nowhere_unnamed : named s name ≡ 0
+    nowhere_unnamed = no_name s name nowhere_is.0
+
+    -- what stands where its directory would be
+    pub nowhere_in : file_or_zero p ≡ parent s name
+    nowhere_in = or_zero_is p d (nowhere_facts _ _ refl refl).2
 
   module _ (e : FileNo) (at : x ≡ New e) where
     new_facts : (m v : Bool) → missing s name ≡ m → is_directory s d ≡ v → (m ≡ true) × (v ≡ true) × (e.0 ≡ d)
@@ -92,12 +113,7 @@ module _ (s : Store) (name : List (List ℕ)) (x : Located) (is : x ≡ located 
     new_missing = (new_facts _ _ refl refl).0
 
     pub new_unnamed : named s name ≡ 0
-    unfolding missing
-    new_unnamed =
-        ⊎_elim
-        (λ (z : named s name ≡ 0). z)
-        (λ (z : named s name ≢ 0). let no : true ≡ false = sym new_missing ∙ ne_eqb (named s name) 0 z in absurd (true≢false no))
-        (same_or_not (named s name) 0)
+    new_unnamed = no_name s name new_missing
 
     pub new_directory : is_directory s (parent s name) ≡ true
     new_directory = (new_facts _ _ refl refl).1

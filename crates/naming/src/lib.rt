@@ -24,10 +24,11 @@ pub fn judge_name(store: &Lent, name: &[u8]) -> Result<usize, Report>
     name_form(name).ok_or(Report::BadName)
 }
 
-// Where a name stands: its directory is not there; the name is new in it; or the directory, and the file that it stands for.
+// Where a name stands: its directory is not there, and what stands in its place, if anything does; the name is new in its directory;
+// or the directory, and the file that it stands for.
 #[derive(Clone, Copy, Debug, PartialEq, Eq)]
 pub enum Located {
-    Nowhere,
+    Nowhere(Option<FileNo>),
     New(FileNo),
     Old(FileNo, FileNo),
 }
@@ -42,10 +43,10 @@ pub fn locate(store: &Lent, name: &[u8], k: usize) -> Located
         return Located::Old(FileNo::ROOT, FileNo::ROOT);
     }
     let Some(d) = lookup(store, FileNo::ROOT, name, 1, k - 1) else {
-        return Located::Nowhere;
+        return Located::Nowhere(None);
     };
     if !is_directory(store.file_records, d) {
-        return Located::Nowhere;
+        return Located::Nowhere(Some(d));
     }
     match look_in(store, d, last_syllable(name)) {
         Some(file) => Located::Old(d, file),

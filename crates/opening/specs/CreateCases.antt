@@ -76,9 +76,9 @@ module _ (t : Tables) (bytes : List ℕ) (k : ℕ) (x : Located) (a : At t bytes
 
 -- ---- the name's directory is not there
 
-pub no-directory : (t : Tables) (bytes : List ℕ) (k : ℕ) → At t bytes k L.Nowhere → Created t bytes (Err NoSuchName)
+pub no-directory : (t : Tables) (bytes : List ℕ) (k : ℕ) (p : Option FileNo) → At t bytes k (L.Nowhere p) → Created t bytes (Err NoSuchName)
 unfolding unless
-no-directory t bytes k a = record { means = rw ((is_nowhere t bytes k L.Nowhere a refl).1) at (given t bytes k L.Nowhere a); fits = tt }
+no-directory t bytes k p a = record { means = rw ((is_nowhere t bytes k (L.Nowhere p) a p refl).1) at (given t bytes k (L.Nowhere p) a); fits = tt }
 
 -- ---- the name stands for a file
 

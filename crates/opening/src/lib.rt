@@ -80,7 +80,7 @@ fn decide_new(store: &Lent, name: &[u8], d: FileNo) -> Result<Creation, Report>
     ensures { Created (tables_of store.now) name.now result }
 {
     let c = find_channel(store.channel_records, FileNo::NONE).ok_or(Report::NoFreeCids)?;
-    let f = find_file(store.file_records, Kind::Free).ok_or(Report::NoFreeFids)?;
+    let f = find_file(store.file_records, Kind::Free as u8).ok_or(Report::NoFreeFids)?;
     let i = new_record(store, name, d);
     record_fits(store, d, i)?;
     Ok(Creation::New(c, f, d, i))
@@ -92,7 +92,7 @@ fn decide_create(store: &Lent, name: &[u8]) -> Result<Creation, Report>
 {
     let k = judge_name(store, name)?;
     match locate(store, name, k) {
-        Located::Nowhere => Err(Report::NoSuchName),
+        Located::Nowhere(_) => Err(Report::NoSuchName),
         Located::New(d) => decide_new(store, name, d),
         Located::Old(_, f) => {
             if is_directory(store.file_records, f) {

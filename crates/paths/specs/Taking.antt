@@ -14,9 +14,14 @@ is_slash name i = eqb (one name i) slash
 unfoldable pub syllable_end : List ℕ → ℕ → ℕ
 syllable_end name at = lowest_from at (length name - at) (is_slash name)
 
--- the same; none where the name is at its end
-abbrev pub taken_at : List ℕ → ℕ → Option ℕ
-taken_at name at = pick (ltb at (length name)) (Some (syllable_end name at)) None
+-- the syllable that starts at a place: where it starts and where it ends; none where the name is at its end
+abbrev pub taken_at : List ℕ → ℕ → Option (ℕ × ℕ)
+taken_at name at = pick (ltb at (length name)) (Some (at, syllable_end name at)) None
+
+-- where what was taken at a place ends
+abbrev pub end_taken : Option (ℕ × ℕ) → ℕ → ℕ
+end_taken (Some (start, end)) at = end
+end_taken None at = at
 
 -- the place behind a syllable's end: behind the slash, or the end of the name
 abbrev pub behind : List ℕ → ℕ → ℕ

@@ -1,5 +1,5 @@
 -- What a reader takes ends where the syllable ends, and what is left starts behind that.
-use Rattle.std.specs.Prelude.{ℕ, ◌+◌, ◌-◌, ◌≤◌, ◌<◌, ◌≡◌, List, Some, None, unwrap_or, position, eqb, take, drop}
+use Rattle.std.specs.Prelude.{ℕ, ◌+◌, ◌-◌, ◌≤◌, ◌<◌, ◌≡◌, List, Some, None, position, eqb, take, drop}
 use Rattle.std.specs.List.{position_or_len}
 use Rattle.std.proofs.Common.{⊎_elim, sym, tests, lt-ltb, le-ltb, length-take, length-drop, get_or-take, get_or-drop}
 use Rattle.std.proofs.lemmas.Option.{cond_some}
@@ -11,7 +11,7 @@ use Rattle.records.specs.Numbers.{one}
 use Rattle.records.specs.RowLaws.{Found, from_found}
 use Rattle.records.specs.Tests.{lt_or_ge}
 use Rattle.meaning.specs.Name.{slash}
-use Rattle.paths.specs.Taking.{is_slash, syllable_end, taken_at, behind}
+use Rattle.paths.specs.Taking.{is_slash, syllable_end, taken_at, end_taken, behind}
 
 module _ (name : List ℕ) (at : ℕ) where
   -- a syllable ends at the first slash, or where the name does
@@ -56,7 +56,7 @@ module _ (name : List ℕ) (at : ℕ) where
       let z : length name - at ≡ 0 = omega arith in
       rw z
 
-  pub end-taken : unwrap_or (taken_at name at) at ≡ syllable_end name at
+  pub end-taken : end_taken (taken_at name at) at ≡ syllable_end name at
   end-taken = ⊎_elim (λ h. rw (lt-ltb at (length name) h)) (λ h. rw (le-ltb at (length name) h) (none_ends h)) (lt_or_ge at (length name))
 
   pub behind-slash : at < length name → behind name at ≡ at + 1

@@ -2,7 +2,7 @@
 #![tactic(auto)]
 
 ghost use Rattle.std.specs.Prelude.{◌≡◌, ◌≤◌, length};
-ghost use Rattle.paths.specs.Taking.{syllable_end, taken_at, behind, reader_at, left_of};
+ghost use Rattle.paths.specs.Taking.{syllable_end, taken_at, end_taken, behind, reader_at, left_of};
 
 // A name, and the place that the next syllable starts at.
 #[derive(Clone, Copy)]
@@ -19,8 +19,8 @@ impl<'a> PathReader<'a> {
         PathReader { name, at }
     }
 
-    // Where the next syllable ends; there is none where the name is at its end.
-    pub fn next(self) -> Option<usize>
+    // The next syllable: where it starts and where it ends. There is none where the name is at its end.
+    pub fn next(self) -> Option<(usize, usize)>
         ensures { result ≡ taken_at self.entry.name.now self.entry.at }
     {
         syllable_at(self.name, self.at)
@@ -45,14 +45,24 @@ fn syllable_end(name: &[u8], at: usize) -> usize
     }
 }
 
-// The same, or none where the name is at its end.
-fn syllable_at(name: &[u8], at: usize) -> Option<usize>
+// The syllable that starts at a place; there is none where the name is at its end.
+fn syllable_at(name: &[u8], at: usize) -> Option<(usize, usize)>
     ensures { result ≡ taken_at name.now at }
 {
     if at < name.len() {
-        return Some(syllable_end(name, at));
+        return Some((at, syllable_end(name, at)));
     }
     None
+}
+
+// Where what was taken at a place ends.
+fn end_taken(taken: Option<(usize, usize)>, at: usize) -> usize
+    ensures { result ≡ end_taken taken at }
+{
+    match taken {
+        Some((_, end)) => end,
+        None => at,
+    }
 }
 
 // The place behind a syllable's end: behind the slash, or the end of the name.
@@ -78,7 +88,7 @@ pub fn take_syllable(name: &[u8], at: usize) -> Step
     ensures { (result.end ≡ syllable_end name.now at) × (result.next ≡ behind name.now (syllable_end name.now at)) }
 {
     let r = PathReader::new(name, at);
-    let end = r.next().unwrap_or(at);
+    let end = end_taken(r.next(), at);
     Step {
         end,
         next: r.left(end).at,

@@ -2,7 +2,7 @@
 use Rattle.std.specs.Prelude.{ℕ, ◌+◌, ◌≤◌, ◌<◌, ◌≡◌, refl, true, false, Option, Some, None, Result, Ok, Err, ok_or}
 use Rattle.std.proofs.Common.{sym, ◌∙◌, arith}
 use borrow.Author.Tests.{lt-ltb, le-ltb}
-use Rattle.meaning.specs.Store.{free_file, free_channel}
+use Rattle.meaning.specs.Store.{Store, in_use, is_directory, free_file, free_channel}
 use Rattle.meaning.specs.Tables.{Tables, store_of, file_count, channel_count}
 use Rattle.meaning.specs.Sound.{sound}
 use Rattle.meaning.specs.Result.{all_open, all_used}
@@ -19,6 +19,11 @@ use Rattle.keeping.proofs.Proofs as K
 -- how many files tables have room for
 pub sized : (t : Tables) → sound t ≡ true → Sized (store_of t)
 sized t ok = K.sized t (sound_layout t ok).lengths
+
+-- no file is no directory
+pub no_directory : (s : Store) (f : ℕ) → f ≡ 0 → is_directory s f ≡ false
+unfolding is_directory in_use
+no_directory s f e = rw e
 
 -- how many channels and files a search goes through
 module _ (t : Tables) (ok : sound t ≡ true) where

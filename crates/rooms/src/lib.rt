@@ -20,7 +20,7 @@ pub fn room(store: &Lent) -> Result<Space, Report>
         return Err(Report::NotAStore);
     }
     let blocks = count_free_blocks(store.block_records);
-    let files = count_files(store.file_records, Kind::Free);
+    let files = count_files(store.file_records, Kind::Free as u8);
     let channels = count_channels(store.channel_records, FileNo::NONE);
     Ok(Space {
         blocks: blocks as u32,

@@ -6,6 +6,7 @@ use Rattle.meaning.specs.Tables.{Tables}
 use Rattle.meaning.specs.Run.{Call, width, Promise, result_of, bytes_of}
 use Rattle.meaning.specs.Answers.{counted}
 use Rattle.meaning.specs.declared.Report.{Report}
+use Rattle.text.specs.Lays.{Lays}
 use Rattle.text.specs.Print.{printed, newline}
 use Rattle.serving.specs.Serves.{Serves}
 use Rattle.serving.specs.ServesLaws.{served-bytes}
@@ -23,10 +24,11 @@ module _ (call : Call) (t : Tables) (buffer : List ℕ) (answer : Answers ℕ Re
   pub head : n ≡ length (take n buffer')
   head = sym (length-take-le n buffer' within)
 
-  pub filled : (out out' : List ℕ) → out' ≡ out ++ printed (counted answer) (take n buffer') ++ newline ∷ [] → Serves (Some call) t out t' out'
-  filled out out' l = served-bytes call t buffer (counted answer) buffer' t' p out out' (take n buffer') shown.same l
+  pub filled : (out : List ℕ) (at : ℕ) (after : List ℕ) (next : ℕ) → Lays out at (printed (counted answer) (take n buffer') ++ newline ∷ []) after next
+      → Serves (Some call) t out at t' after next
+  filled out at after next l = served-bytes call t buffer (counted answer) buffer' t' p out at after next (take n buffer') shown.same l
 
 -- so many bytes are lent
-pub of_count : (c count : ℕ) (lent : List ℕ) → count ≤ length lent → (t : Tables) (out : List ℕ) (t' : Tables) (out' : List ℕ)
-    → Serves (Some (Call.Read c (length (take count lent)))) t out t' out' → Serves (Some (Call.Read c count)) t out t' out'
-of_count c count lent h t out t' out' s = rw (length-take-le count lent h) at s
+pub of_count : (c count : ℕ) (lent : List ℕ) → count ≤ length lent → (t : Tables) (out : List ℕ) (at : ℕ) (t' : Tables) (after : List ℕ) (next : ℕ)
+    → Serves (Some (Call.Read c (length (take count lent)))) t out at t' after next → Serves (Some (Call.Read c count)) t out at t' after next
+of_count c count lent h t out at t' after next s = rw (length-take-le count lent h) at s

@@ -5,6 +5,8 @@ use Rattle.records.specs.Rows.{pick}
 use Rattle.meaning.specs.Name.{same}
 use Rattle.meaning.specs.Run.{Call, Prepare, Room, Create, Open, Unlink, Mkdir, Rmdir, Link, Move, Ls, Close, Fstat, Read, Write, Seek}
 use Rattle.text.specs.Line.{lent_bytes, longest_line, given, nothing, a_word, number, a_number, the_data, a_name, two_names, last_number, reading, Form, forms, formed, asked, first_word, after_word}
+use Rattle.text.specs.Commands.{command_call, commanded}
+use Rattle.text.specs.declared.Command.{Command}
 
 abbrev pub BriefCall : Call → Type 0
 BriefCall Prepare = Unit
@@ -139,7 +141,12 @@ pub asked-brief : (line : List ℕ) → Brief (asked line)
 unfolding asked
 asked-brief line = either (leb (length line) longest_line) (formed forms (first_word line) (after_word line)) None (of_formed forms all_brief (first_word line) (after_word line)) tt
 
--- ---- so does what some line of text asks for
+-- ---- a command that was read can be served
+
+pub servable : (command : Command) (call : Option Call) → commanded (Some command) ≡ call → Brief call → BriefCall (command_call command)
+servable command call e b = rw (← e) at b
+
+-- ---- so can what some line of text asks for
 
 pub brief_asked : (call : Option Call) → (bytes : List ℕ) × (call ≡ asked bytes) → Brief call
 brief_asked call s = rw (s.1) (asked-brief s.0)

@@ -3,3 +3,4 @@ pub mod ServesLaws
 pub mod Shown
 pub mod Sizes
 pub mod Brief
+pub mod Pending

@@ -8,6 +8,8 @@ use Rattle.meaning.specs.Result.{Result, refused, done}
 use Rattle.meaning.specs.Run.{Call, width, Answer, Promise, result_of, answer_of, bytes_of, refusal, number_of}
 use Rattle.meaning.specs.Answers.{answered, reported}
 use Rattle.meaning.specs.declared.Report.{Report}
+use Rattle.text.specs.Lays.{Lays}
+use Rattle.text.specs.LaysLaws.{lays_as}
 use Rattle.text.specs.Print.{served_as, printed, newline, question}
 use Rattle.serving.specs.Serves.{Serves}
 
@@ -17,22 +19,24 @@ none_over [] e = refl
 none_over (b ∷ bytes) e = cc
 
 module _ (call : Call) (t : Tables) (buffer : List ℕ) (answer : Answer) (buffer' : List ℕ) (t' : Tables)
-    (p : Promise call t buffer (record { answer = answer; buffer = buffer'; tables = t' })) (out out' : List ℕ) where
+    (p : Promise call t buffer (record { answer = answer; buffer = buffer'; tables = t' }))
+    (out : List ℕ) (at : ℕ) (after : List ℕ) (next : ℕ) where
   -- the bytes that are printed are those that the call gives
   pub served-bytes : (bytes : List ℕ) → printed answer bytes ≡ printed answer (bytes_of (result_of call t))
-      → out' ≡ out ++ printed answer bytes ++ newline ∷ [] → Serves (Some call) t out t' out'
+      → Lays out at (printed answer bytes ++ newline ∷ []) after next → Serves (Some call) t out at t' after next
   unfolding served_as
   served-bytes bytes e l =
       record {
         leaves = p.leaves;
-        prints = l ∙ ap (λ x. out ++ x ++ newline ∷ []) (e ∙ ap (λ a. printed a (bytes_of (result_of call t))) p.answers);
+        lays = lays_as (printed answer bytes ++ newline ∷ []) (printed (answer_of (width call) (result_of call t)) (bytes_of (result_of call t)) ++ newline ∷ []) out after at next
+            (ap (λ x. x ++ newline ∷ []) (e ∙ ap (λ a. printed a (bytes_of (result_of call t))) p.answers)) l;
       }
 
 module _ (call : Call) (t : Tables) (answer : Answer) (t' : Tables) (p : Promise call t [] (record { answer = answer; buffer = []; tables = t' }))
-    (out out' : List ℕ) where
+    (out : List ℕ) (at : ℕ) (after : List ℕ) (next : ℕ) where
   -- a call without lent buffer
-  pub kept_served : out' ≡ out ++ printed answer [] ++ newline ∷ [] → Serves (Some call) t out t' out'
-  kept_served l = served-bytes call t [] answer [] t' p out out' [] (ap (printed answer) (sym (none_over (bytes_of (result_of call t)) p.fills))) l
+  pub kept_served : Lays out at (printed answer [] ++ newline ∷ []) after next → Serves (Some call) t out at t' after next
+  kept_served l = served-bytes call t [] answer [] t' p out at after next [] (ap (printed answer) (sym (none_over (bytes_of (result_of call t)) p.fills))) l
 
 -- the same of a call that answers its report alone, and so never an Err of Ok
 some_answer : (n : ℕ) (r : Result) → [] ≡ answer_of n r → ⊥
@@ -49,11 +53,12 @@ reported_row r n (Err why) e = go (eqb (number_of why) 0) e
     go false e = refl
 
 module _ (call : Call) (t : Tables) (answer : Answers (Unit {0}) Report) (t' : Tables)
-    (p : Promise call t [] (record { answer = reported answer; buffer = []; tables = t' })) (out out' : List ℕ) where
-  pub kept_reported : out' ≡ out ++ printed (answered 0 (λ _. []) answer) [] ++ newline ∷ [] → Serves (Some call) t out t' out'
-  kept_reported l = kept_served call t (reported answer) t' p out out' (rw (reported_row (result_of call t) (width call) answer p.answers) l)
+    (p : Promise call t [] (record { answer = reported answer; buffer = []; tables = t' })) (out : List ℕ) (at : ℕ) (after : List ℕ) (next : ℕ) where
+  pub kept_reported : Lays out at (printed (answered 0 (λ _. []) answer) [] ++ newline ∷ []) after next → Serves (Some call) t out at t' after next
+  kept_reported l = kept_served call t (reported answer) t' p out at after next (rw (reported_row (result_of call t) (width call) answer p.answers) l)
 
 -- a line that is no call
-pub unknown_served : (t : Tables) (out out' : List ℕ) → out' ≡ out ++ question ++ newline ∷ [] → Serves None t out t out'
+pub unknown_served : (t : Tables) (out : List ℕ) (at : ℕ) (after : List ℕ) (next : ℕ) → Lays out at (question ++ newline ∷ []) after next
+    → Serves None t out at t after next
 unfolding served_as
-unknown_served t out out' l = record { leaves = refl; prints = l }
+unknown_served t out at after next l = record { leaves = refl; lays = l }

@@ -1,6 +1,5 @@
 // The two calls that fill a buffer, which is lent to them here; what they put there is printed.
-ghost use Rattle.std.specs.Prelude.{Some, ◌+◌, ◌≤◌};
-ghost use Rattle.arrayvec.specs.ArrayVec.{array_vec_len};
+ghost use Rattle.std.specs.Prelude.{Some, ◌+◌, ◌≤◌, length};
 ghost use Rattle.meaning.specs.Tables.{tables};
 ghost use Rattle.meaning.specs.Types.{tables_of};
 ghost use Rattle.meaning.specs.Run.{Call};
@@ -10,7 +9,7 @@ ghost use Rattle.serving.specs.Serves.{Serves, line_room};
 use channels::read;
 use listing::ls;
 use meaning::{ChannelNo, LONGEST_SYLLABLE, Lent};
-use text::print::{OUTPUT, Output, print_counted};
+use text::print::print_counted;
 
 // So many bytes are lent.
 const LENT_BYTES: usize = 2048;
@@ -23,11 +22,12 @@ pub fn serve_read(
     channel_records: &mut [u8],
     c: ChannelNo,
     count: u32,
-    out: &mut Output,
-)
+    out: &mut [u8],
+    at: usize,
+) -> usize
     requires brief { count ≤ lent_bytes }
-    requires room { array_vec_len out.old + line_room ≤ OUTPUT }
-    ensures { Serves (Some (Call.Read c.0 count)) (tables blocks.now block_records.now file_records.now channel_records.old) out.old.items (tables blocks.now block_records.now file_records.now channel_records.new) out.new.items }
+    requires room { at + line_room ≤ length out.old }
+    ensures { Serves (Some (Call.Read c.0 count)) (tables blocks.now block_records.now file_records.now channel_records.old) out.old at (tables blocks.now block_records.now file_records.now channel_records.new) out.new result }
 {
     let mut lent = [0; LENT_BYTES];
     let buffer = &mut lent[..count as usize];
@@ -40,16 +40,16 @@ pub fn serve_read(
         buffer,
     );
     let n = answer.unwrap_or(0) as usize;
-    print_counted(out, answer, &buffer[..n]);
+    print_counted(out, at, answer, &buffer[..n])
 }
 
 // Lists a directory, and prints what was listed.
-pub fn serve_ls(store: &Lent, name: &[u8], out: &mut Output)
-    requires room { array_vec_len out.old + line_room ≤ OUTPUT }
-    ensures { Serves (Some (Call.Ls name.now lent_bytes)) (tables_of store.now) out.old.items (tables_of store.now) out.new.items }
+pub fn serve_ls(store: &Lent, name: &[u8], out: &mut [u8], at: usize) -> usize
+    requires room { at + line_room ≤ length out.old }
+    ensures { Serves (Some (Call.Ls name.now lent_bytes)) (tables_of store.now) out.old at (tables_of store.now) out.new result }
 {
     let mut buffer = [0; LENT_BYTES];
     let answer = ls(store, name, &mut buffer);
     let n = LONGEST_SYLLABLE * answer.unwrap_or(0) as usize;
-    print_counted(out, answer, &buffer[..n]);
+    print_counted(out, at, answer, &buffer[..n])
 }

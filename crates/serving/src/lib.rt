@@ -1,16 +1,13 @@
-// A call carried out on the tables, and the line that is printed for it behind what the output holds. Definitions are in specs/.
+// A call carried out on the tables, and the line that is printed for it. Definitions are in specs/.
 // Tables that are changed are taken one by one; `channels` says why.
 #![tactic(auto)]
 
 mod filling;
 
-ghost use Rattle.std.specs.Prelude.{Some, List, ℕ, ◌+◌, ◌≤◌};
-ghost use Rattle.arrayvec.specs.ArrayVec.{array_vec_len};
+ghost use Rattle.std.specs.Prelude.{Some, ◌+◌, ◌≤◌, length};
 ghost use Rattle.meaning.specs.Run.{entered, left};
-ghost use Rattle.text.specs.Line.{asked};
-ghost use Rattle.text.specs.Commands.{call_of};
-ghost use Rattle.text.specs.Gathering.{Pends};
-ghost use Rattle.serving.specs.Serves.{Serves, line_room};
+ghost use Rattle.text.specs.Commands.{command_call};
+ghost use Rattle.serving.specs.Serves.{Serves, ServesLine, line_room};
 ghost use Rattle.serving.specs.Brief.{BriefCall};
 
 use channels::{close, fstat, seek};
@@ -22,22 +19,23 @@ use opening::{create, open};
 use rooms::{prepare, room};
 use text::Command;
 use text::lines::{Pending, ask};
-use text::print::{OUTPUT, Output, print_answer, print_unknown};
+use text::print::{print_answer, print_unknown};
 use unlinking::unlink;
 use writing::write;
 
-// Carries out a command, and prints its line.
+// Carries out a command, and prints its line from a place on. The answer is the next place.
 pub fn serve(
     blocks: &mut [u8],
     block_records: &mut [u8],
     file_records: &mut [u8],
     channel_records: &mut [u8],
     command: Command<'_>,
-    out: &mut Output,
-)
-    requires brief { BriefCall (call_of command) }
-    requires room { array_vec_len out.old + line_room ≤ OUTPUT }
-    ensures { Serves (Some (call_of command.entry)) (entered blocks block_records file_records channel_records) out.old.items (left blocks block_records file_records channel_records) out.new.items }
+    out: &mut [u8],
+    at: usize,
+) -> usize
+    requires brief { BriefCall (command_call command) }
+    requires room { at + line_room ≤ length out.old }
+    ensures { Serves (Some (command_call command.entry)) (entered blocks block_records file_records channel_records) out.old at (left blocks block_records file_records channel_records) out.new result }
 {
     let store = Lent {
         blocks,
@@ -48,31 +46,38 @@ pub fn serve(
     match command {
         Command::Prepare => print_answer(
             out,
+            at,
             prepare(blocks, block_records, file_records, channel_records),
         ),
-        Command::Room => print_answer(out, room(&store)),
+        Command::Room => print_answer(out, at, room(&store)),
         Command::Create(name) => print_answer(
             out,
+            at,
             create(blocks, block_records, file_records, channel_records, name),
         ),
         Command::Open(name) => print_answer(
             out,
+            at,
             open(blocks, block_records, file_records, channel_records, name),
         ),
         Command::Unlink(name) => print_answer(
             out,
+            at,
             unlink(blocks, block_records, file_records, channel_records, name),
         ),
         Command::Mkdir(name) => print_answer(
             out,
+            at,
             mkdir(blocks, block_records, file_records, channel_records, name),
         ),
         Command::Rmdir(name) => print_answer(
             out,
+            at,
             rmdir(blocks, block_records, file_records, channel_records, name),
         ),
         Command::Link(old, new) => print_answer(
             out,
+            at,
             link(
                 blocks,
                 block_records,
@@ -84,6 +89,7 @@ pub fn serve(
         ),
         Command::Move(old, new) => print_answer(
             out,
+            at,
             move_name(
                 blocks,
                 block_records,
@@ -93,9 +99,10 @@ pub fn serve(
                 new,
             ),
         ),
-        Command::Ls(name) => serve_ls(&store, name, out),
+        Command::Ls(name) => serve_ls(&store, name, out, at),
         Command::Close(c) => print_answer(
             out,
+            at,
             close(
                 blocks,
                 block_records,
@@ -104,7 +111,7 @@ pub fn serve(
                 ChannelNo(c),
             ),
         ),
-        Command::Fstat(c) => print_answer(out, fstat(&store, ChannelNo(c))),
+        Command::Fstat(c) => print_answer(out, at, fstat(&store, ChannelNo(c))),
         Command::Read(c, count) => serve_read(
             blocks,
             block_records,
@@ -113,9 +120,11 @@ pub fn serve(
             ChannelNo(c),
             count,
             out,
+            at,
         ),
         Command::Write(c, bytes) => print_answer(
             out,
+            at,
             write(
                 blocks,
                 block_records,
@@ -127,6 +136,7 @@ pub fn serve(
         ),
         Command::Seek(c, mode, n) => print_answer(
             out,
+            at,
             seek(
                 blocks,
                 block_records,
@@ -140,17 +150,18 @@ pub fn serve(
     }
 }
 
-// Serves a line that has been put together.
+// Serves a line that has been put together. The answer is the next place.
 pub fn serve_line(
     blocks: &mut [u8],
     block_records: &mut [u8],
     file_records: &mut [u8],
     channel_records: &mut [u8],
     line: &Pending,
-    out: &mut Output,
-)
-    requires room { array_vec_len out.old + line_room ≤ OUTPUT }
-    ensures { (bytes : List ℕ) → Pends bytes line.now → Serves (asked bytes) (entered blocks block_records file_records channel_records) out.old.items (left blocks block_records file_records channel_records) out.new.items }
+    out: &mut [u8],
+    at: usize,
+) -> usize
+    requires room { at + line_room ≤ length out.old }
+    ensures { ServesLine line.now (entered blocks block_records file_records channel_records) out.old at (left blocks block_records file_records channel_records) out.new result }
 {
     match ask(line) {
         Some(command) => serve(
@@ -160,7 +171,8 @@ pub fn serve_line(
             channel_records,
             command,
             out,
+            at,
         ),
-        None => print_unknown(out),
+        None => print_unknown(out, at),
     }
 }

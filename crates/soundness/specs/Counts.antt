@@ -3,6 +3,7 @@ use Rattle.std.specs.Prelude.{ℕ, zero, suc, ◌+◌, ◌-◌, ◌*◌, ◌/◌
 use Rattle.std.proofs.Common.{sym, ◌∙◌}
 use Rattle.std.proofs.Math.Bool.{true, false}
 use native.Mathlib.Omega.{arith}
+use lib.ListN.{replicate, get_or-replicate}
 use Rattle.std.proofs.Math.Dec.{eqb}
 use Rattle.records.specs.Rows.{pick, every, how_many, sum}
 use Rattle.records.specs.RowLaws.{every_all}
@@ -36,6 +37,9 @@ pub record Counts (s : Store) (r : ℕ) (counts : List ℕ) : Type 0 where
 
 pub counts_start : (s : Store) (counts : List ℕ) → length counts ≡ 65 → ((f : ℕ) → f ≤ 64 → get_or counts f 0 ≡ 0) → Counts s 0 counts
 counts_start s counts size none = record { size = size; each = λ f h. none f h ∙ sym (sum_start (λ i. names_of s (suc i) f)) }
+
+pub counts_zeros : (s : Store) → Counts s 0 (replicate 65 0)
+counts_zeros s = counts_start s (replicate 65 0) refl (λ f h. get_or-replicate 65 f 0 0 (omega arith))
 
 -- one file more
 names-step : (s : Store) (d f : ℕ) → 0 < d → sum d (λ i. names_of s (suc i) f) ≡ sum (d - 1) (λ i. names_of s (suc i) f) + names_of s d f

@@ -8,15 +8,15 @@ ghost use Rattle.soundness.specs.Slots.{directories_of, PlacedIn};
 ghost use Rattle.soundness.specs.DirectoryRules.{directories_rule};
 ghost use Rattle.soundness.specs.Counts.{Counts};
 
-use crate::directory::{DirectoryRecords, records_of};
+use crate::directory::{DirectoryRecords, records_of, starts_of};
 use crate::{every_file, in_use, is_directory};
 use meaning::{FileNo, Kind, Lent};
 use tables::{file_record, is_held};
 
 // The names that a directory's records give, added to the count of each file.
 fn count_directory(records: &DirectoryRecords, counts: &mut [u32; 65])
-    requires { Countable «records».now.blocks.now «records».now.starts «records».now.count counts.old }
-    ensures { Counted «records».now.blocks.now «records».now.starts «records».now.count counts.old counts.new }
+    requires { Countable «records».now.blocks.now «records».now.starts.now «records».now.count counts.old }
+    ensures { Counted «records».now.blocks.now «records».now.starts.now «records».now.count counts.old counts.new }
 {
     for i in 0..records.count {
         let k = records.file(i).0 as usize;
@@ -35,7 +35,8 @@ fn add_directory(store: &Lent, f: FileNo, size: u32, counts: &mut [u32; 65])
     requires counted { Counts (directories_of store.now) (f.0 - 1) counts.old }
     ensures { Counts (directories_of store.now) f.0 counts.new }
 {
-    count_directory(&records_of(store, f, size), counts);
+    let starts = starts_of(store, f, size);
+    count_directory(&records_of(store, f, size, &starts), counts);
 }
 
 // The names that file f gives, if that is a directory, added to the count of each file.
@@ -52,16 +53,27 @@ fn add_names(store: &Lent, f: FileNo, counts: &mut [u32; 65])
     }
 }
 
-// How many records name each file, over all directories.
+// How many records name each file, over all directories, counted into a row that has no counts yet. It is filled in place, since
+// an array that a function answers is copied.
+pub fn count_all(store: &Lent, counts: &mut [u32; 65])
+    requires placed { PlacedIn store.now }
+    requires directories_kept { directories_rule (directories_of store.now) ≡ true }
+    requires fresh { Counts (directories_of store.now) 0 counts.old }
+    ensures { Counts (directories_of store.now) (file_count store.now.file_records.now) counts.new }
+{
+    for r in 0..store.file_records.len() / 8 {
+        add_names(store, FileNo(r as u16 + 1), counts);
+    }
+}
+
+// The same as a row of its own.
 pub fn count_names(store: &Lent) -> [u32; 65]
     requires placed { PlacedIn store.now }
     requires directories_kept { directories_rule (directories_of store.now) ≡ true }
     ensures { Counts (directories_of store.now) (file_count store.now.file_records.now) result }
 {
     let mut counts: [u32; 65] = [0; 65];
-    for r in 0..store.file_records.len() / 8 {
-        add_names(store, FileNo(r as u16 + 1), &mut counts);
-    }
+    count_all(store, &mut counts);
     counts
 }
 

@@ -21,11 +21,11 @@ use tables::{FileRecord, block_start, file_record, held_block, places};
 
 // The records of a directory as they lie in the block table: its blocks in a row, and how many records there are.
 #[derive(Drop)]
-pub struct DirectoryRecords<'a> {
+pub struct DirectoryRecords<'a, 's> {
     pub blocks: &'a [u8],
-    pub starts: [u16; 64],
+    pub starts: &'s [u16; 64],
     pub count: usize,
-    ghost within: { Within blocks.now starts count },
+    ghost within: { Within blocks.now starts.now count },
 }
 
 // The blocks of the first n places of file f, in a row. Each place has one.
@@ -40,21 +40,36 @@ fn find_blocks(block_records: &[u8], f: FileNo, n: usize) -> [u16; 64]
     starts
 }
 
-// The records of file f, a directory of some size.
-pub fn records_of<'a>(store: &Lent<'a>, f: FileNo, size: u32) -> DirectoryRecords<'a>
+// The blocks of file f, a directory of some size, in a row.
+pub fn starts_of(store: &Lent, f: FileNo, size: u32) -> [u16; 64]
     requires placed { PlacedIn store.now }
     requires f_in_bounds { (0 < f.0) × (f.0 ≤ file_count store.now.file_records.now) }
     requires size_is { size ≡ file_length store.now.file_records.now f.0 }
+    ensures { Starts store.now.block_records.now f.0 (needed (file_length store.now.file_records.now f.0)) result }
+{
+    find_blocks(store.block_records, f, places(size as usize))
+}
+
+// The records of file f, a directory of some size, in the blocks of a row. The row is lent, not held: a copy of it costs as much
+// as a small directory.
+pub fn records_of<'a, 's>(
+    store: &Lent<'a>,
+    f: FileNo,
+    size: u32,
+    starts: &'s [u16; 64],
+) -> DirectoryRecords<'a, 's>
+    requires placed { PlacedIn store.now }
+    requires f_in_bounds { (0 < f.0) × (f.0 ≤ file_count store.now.file_records.now) }
+    requires size_is { size ≡ file_length store.now.file_records.now f.0 }
+    requires found { Starts store.now.block_records.now f.0 (needed (file_length store.now.file_records.now f.0)) starts.now }
     ensures blocks { result.blocks.now ≡ store.now.blocks.now }
-    ensures starts { Starts store.now.block_records.now f.0 (needed (file_length store.now.file_records.now f.0)) result.starts }
+    ensures starts { Starts store.now.block_records.now f.0 (needed (file_length store.now.file_records.now f.0)) result.starts.now }
     ensures count { result.count ≡ file_length store.now.file_records.now f.0 / 16 }
 {
-    let n = size as usize;
-    let starts = find_blocks(store.block_records, f, places(n));
     DirectoryRecords {
         blocks: store.blocks,
         starts,
-        count: n / 16,
+        count: size as usize / 16,
     }
 }
 
@@ -85,11 +100,11 @@ fn one_deeper(file_records: &[u8], depth: u8, f: FileNo) -> bool
     !is_directory(file_records, f) || file_record(file_records, f).depth as u16 == depth as u16 + 1
 }
 
-impl DirectoryRecords<'_> {
+impl DirectoryRecords<'_, '_> {
     // Where record i starts in the block table.
     pub fn start(&self, i: usize) -> usize
         requires { i < self.now.count }
-        ensures at { result ≡ 16 * slot self.now.starts i }
+        ensures at { result ≡ 16 * slot self.now.starts.now i }
         ensures inside { result + 16 ≤ length self.now.blocks.now }
     {
         let b = BlockNo(self.starts[i / 32]);
@@ -99,7 +114,7 @@ impl DirectoryRecords<'_> {
     // The file number of record i.
     pub fn file(&self, i: usize) -> FileNo
         requires { i < self.now.count }
-        ensures { result.0 ≡ (entry_at self.now.blocks.now (slot self.now.starts i)).file }
+        ensures { result.0 ≡ (entry_at self.now.blocks.now (slot self.now.starts.now i)).file }
     {
         record_file(self.blocks, self.start(i))
     }
@@ -107,7 +122,7 @@ impl DirectoryRecords<'_> {
     // Whether record i is blank, or names a file in use, not the root, by a syllable.
     fn is_sound(&self, file_records: &[u8], i: usize) -> bool
         requires { i < self.now.count }
-        ensures { result ≡ record_sound (files_store file_records.now) self.now.blocks.now (slot self.now.starts i) }
+        ensures { result ≡ record_sound (files_store file_records.now) self.now.blocks.now (slot self.now.starts.now i) }
     {
         let at = self.start(i);
         let f = record_file(self.blocks, at);
@@ -120,14 +135,14 @@ impl DirectoryRecords<'_> {
 
     // Whether every record is sound.
     fn all_sound(&self, file_records: &[u8]) -> bool
-        ensures { result ≡ records_at (files_store file_records.now) self.now.blocks.now self.now.starts self.now.count }
+        ensures { result ≡ records_at (files_store file_records.now) self.now.blocks.now self.now.starts.now self.now.count }
     {
         every(self.count, |i| self.is_sound(file_records, i))
     }
 
     // Whether every directory that a record names is one deeper than this one.
     fn all_deeper(&self, file_records: &[u8], depth: u8) -> bool
-        ensures { result ≡ deeper_at (files_store file_records.now) self.now.blocks.now self.now.starts depth self.now.count }
+        ensures { result ≡ deeper_at (files_store file_records.now) self.now.blocks.now self.now.starts.now depth self.now.count }
     {
         every(
             self.count,
@@ -146,7 +161,8 @@ fn records_sound(store: &Lent, f: FileNo, read: FileRecord) -> bool
     requires kind_is { eqb read.kind 2 ≡ true }
     ensures { result ≡ directory_rule (directories_of store.now) f.0 }
 {
-    let records = records_of(store, f, read.length);
+    let starts = starts_of(store, f, read.length);
+    let records = records_of(store, f, read.length, &starts);
     records.all_sound(store.file_records)
         && Names { records: &records }.all_new()
         && records.all_deeper(store.file_records, read.depth)

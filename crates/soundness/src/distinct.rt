@@ -13,9 +13,9 @@ use records::{four_at, two_at, zeros_at};
 
 // The names of records that are sound: zeros stand behind each.
 #[derive(Drop)]
-pub struct Names<'a> {
-    pub records: &'a DirectoryRecords<'a>,
-    ghost padded: { Padded records.now.blocks.now records.now.starts records.now.count },
+pub struct Names<'r, 'a, 's> {
+    pub records: &'r DirectoryRecords<'a, 's>,
+    ghost padded: { Padded records.now.blocks.now records.now.starts.now records.now.count },
 }
 
 // Whether the records that start at two places have the same name. Zeros stand behind both, so their bytes are compared
@@ -32,11 +32,11 @@ fn same_name(table: &[u8], at: usize, other: usize) -> bool
         && two_at(table, at + 14) == two_at(table, other + 14)
 }
 
-impl Names<'_> {
+impl Names<'_, '_, '_> {
     // Whether record i is blank.
     fn is_blank(&self, i: usize) -> bool
         requires { i < self.now.records.now.count }
-        ensures { result ≡ is_blank self.now.records.now.blocks.now (slot self.now.records.now.starts i) }
+        ensures { result ≡ is_blank self.now.records.now.blocks.now (slot self.now.records.now.starts.now i) }
     {
         zeros_at(self.records.blocks, self.records.start(i), 16)
     }
@@ -44,7 +44,7 @@ impl Names<'_> {
     // Whether records i and j have the same name.
     fn are_same(&self, i: usize, j: usize) -> bool
         requires { (i < self.now.records.now.count) × (j < self.now.records.now.count) }
-        ensures { result ≡ same (entry_at self.now.records.now.blocks.now (slot self.now.records.now.starts i)).name (entry_at self.now.records.now.blocks.now (slot self.now.records.now.starts j)).name }
+        ensures { result ≡ same (entry_at self.now.records.now.blocks.now (slot self.now.records.now.starts.now i)).name (entry_at self.now.records.now.blocks.now (slot self.now.records.now.starts.now j)).name }
     {
         let at = self.records.start(i);
         let other = self.records.start(j);
@@ -54,14 +54,14 @@ impl Names<'_> {
     // Whether record i is blank, or no record before it has its name.
     fn is_new(&self, i: usize) -> bool
         requires { i < self.now.records.now.count }
-        ensures { result ≡ new_at self.now.records.now.blocks.now self.now.records.now.starts i }
+        ensures { result ≡ new_at self.now.records.now.blocks.now self.now.records.now.starts.now i }
     {
         self.is_blank(i) || every(i, |j| !self.are_same(j, i))
     }
 
     // Whether no two have the same name, each compared with every one before it.
     fn all_compared(&self) -> bool
-        ensures { result ≡ names_at self.now.records.now.blocks.now self.now.records.now.starts self.now.records.now.count }
+        ensures { result ≡ names_at self.now.records.now.blocks.now self.now.records.now.starts.now self.now.records.now.count }
     {
         every(self.records.count, |i| self.is_new(i))
     }
@@ -69,7 +69,7 @@ impl Names<'_> {
     // Which of 1,024 chains record i belongs to: its name's 14 bytes, mixed.
     fn chain(&self, i: usize) -> usize
         requires { i < self.now.records.now.count }
-        ensures { result ≡ chain_at self.now.records.now.blocks.now self.now.records.now.starts i }
+        ensures { result ≡ chain_at self.now.records.now.blocks.now self.now.records.now.starts.now i }
     {
         let table = self.records.blocks;
         let at = self.records.start(i);
@@ -86,9 +86,9 @@ impl Names<'_> {
     // rows would double them.
     fn is_new_in_chain(&self, links: &[u16; 2048], i: usize, last: u16) -> bool
         requires i_in_bounds { i < self.now.records.now.count }
-        requires linked { Links self.now.records.now.blocks.now self.now.records.now.starts i links.now }
-        requires last_of_chain { Last self.now.records.now.blocks.now self.now.records.now.starts (chain_at self.now.records.now.blocks.now self.now.records.now.starts i) i last }
-        ensures { result ≡ new_at self.now.records.now.blocks.now self.now.records.now.starts i }
+        requires linked { Links self.now.records.now.blocks.now self.now.records.now.starts.now i links.now }
+        requires last_of_chain { Last self.now.records.now.blocks.now self.now.records.now.starts.now (chain_at self.now.records.now.blocks.now self.now.records.now.starts.now i) i last }
+        ensures { result ≡ new_at self.now.records.now.blocks.now self.now.records.now.starts.now i }
     {
         if self.is_blank(i) {
             return true;
@@ -105,9 +105,11 @@ impl Names<'_> {
         true
     }
 
-    // The same as all_compared, where a name is compared with those of its chain alone.
+    // The same as all_compared, where a name is compared with those of its chain alone. Not inlined, so that a directory of few
+    // records takes no stack for chains.
+    #[inline(never)]
     fn all_chained(&self) -> bool
-        ensures { result ≡ names_at self.now.records.now.blocks.now self.now.records.now.starts self.now.records.now.count }
+        ensures { result ≡ names_at self.now.records.now.blocks.now self.now.records.now.starts.now self.now.records.now.count }
     {
         let mut lasts: [u16; 1024] = [0; 1024];
         let mut links: [u16; 2048] = [0; 2048];
@@ -125,7 +127,7 @@ impl Names<'_> {
 
     // Whether no two have the same name. For few records chains do not pay.
     pub fn all_new(&self) -> bool
-        ensures { result ≡ names_at self.now.records.now.blocks.now self.now.records.now.starts self.now.records.now.count }
+        ensures { result ≡ names_at self.now.records.now.blocks.now self.now.records.now.starts.now self.now.records.now.count }
     {
         if self.records.count < 8 {
             self.all_compared()

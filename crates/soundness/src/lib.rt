@@ -10,7 +10,7 @@ mod placed;
 ghost use Rattle.std.specs.Prelude.{true, ◌≡◌, ℕ, Bool, ◌&&◌, suc, ◌+◌, ◌*◌, ◌/◌, ◌%◌, ◌≤◌, ◌<◌, length, eqb};
 ghost use Rattle.records.specs.Rows.{every};
 ghost use Rattle.meaning.specs.Store.{in_use, is_directory};
-ghost use Rattle.meaning.specs.Tables.{file_count};
+ghost use Rattle.meaning.specs.Tables.{file_count, channel_count};
 ghost use Rattle.meaning.specs.Types.{tables_of};
 ghost use Rattle.meaning.specs.Sound.{lengths_agree, sound};
 ghost use Rattle.soundness.specs.Rules.{counts_to};
@@ -20,14 +20,14 @@ ghost use Rattle.soundness.specs.Slots.{directories_of};
 ghost use Rattle.soundness.specs.SoundLaws.{zeros_in, tables_sound};
 ghost use Rattle.soundness.specs.SoundRules.{named_sound};
 
-use counted::all_named;
 pub use counted::count_names;
+use counted::{all_named, count_all};
 use directory::directories_sound;
 use forms::{channels_sound, files_sound, owners_sound};
-use meaning::{BLOCK_SIZE, FileNo, Kind, Lent, MOST_BLOCKS, MOST_CHANNELS, MOST_FILES};
+use meaning::{BLOCK_SIZE, ChannelNo, FileNo, Kind, Lent, MOST_BLOCKS, MOST_CHANNELS, MOST_FILES};
 use placed::places_sound;
 use records::rows::every;
-use tables::{file_record, zeros_of};
+use tables::{channel_zeros, file_record, file_zeros};
 
 // Whether f is the number of a file in use.
 pub fn in_use(file_records: &[u8], f: FileNo) -> bool
@@ -54,11 +54,22 @@ fn every_file<F: Fn(FileNo) -> bool>(file_records: &[u8], rule: F) -> bool
     every(file_records.len() / 8, |r| rule(FileNo(r as u16 + 1)))
 }
 
-// Whether the two zeros of every record of a table of records of 8 bytes stand.
-fn zeros_stand(records: &[u8]) -> bool
-    ensures { result ≡ zeros_in records.now }
+// Whether the two zeros of every file record stand.
+fn file_zeros_stand(file_records: &[u8]) -> bool
+    requires { file_count file_records.now ≤ 64 }
+    ensures { result ≡ zeros_in file_records.now }
 {
-    every(records.len() / 8, |r| zeros_of(records, r))
+    every_file(file_records, |f| file_zeros(file_records, f))
+}
+
+// Whether the two zeros of every channel record stand.
+fn channel_zeros_stand(channel_records: &[u8]) -> bool
+    requires { channel_count channel_records.now ≤ 16 }
+    ensures { result ≡ zeros_in channel_records.now }
+{
+    every(channel_records.len() / 8, |c| {
+        channel_zeros(channel_records, ChannelNo(c as u32))
+    })
 }
 
 // Whether a count is from 1 up to a most.
@@ -91,8 +102,8 @@ fn tables_sound(store: &Lent) -> bool
     ensures { result ≡ tables_sound (tables_of store.now) }
 {
     lengths_agree(store)
-        && zeros_stand(store.file_records)
-        && zeros_stand(store.channel_records)
+        && file_zeros_stand(store.file_records)
+        && channel_zeros_stand(store.channel_records)
         && files_sound(store.file_records)
         && owners_sound(store)
         && places_sound(store)
@@ -106,7 +117,9 @@ fn names_sound(store: &Lent) -> bool
     requires directories_kept { directories_rule (directories_of store.now) ≡ true }
     ensures { result ≡ named_sound (tables_of store.now) }
 {
-    all_named(store, &count_names(store))
+    let mut counts: [u32; 65] = [0; 65];
+    count_all(store, &mut counts);
+    all_named(store, &counts)
 }
 
 // Whether the tables are a sound store. They may have any lengths and hold any bytes.

@@ -96,6 +96,22 @@ pub fn zeros_of(records: &[u8], r: usize) -> bool
     zeros_at(records, 8 * r + 2, 2)
 }
 
+// Whether the two zeros of file f's record stand.
+pub fn file_zeros(records: &[u8], f: FileNo) -> bool
+    requires { (0 < f.0) × (f.0 ≤ file_count records.now) }
+    ensures { result ≡ zeros records.now (8 * (f.0 - 1) + 2) 2 }
+{
+    zeros_of(records, f.0 as usize - 1)
+}
+
+// Whether the two zeros of channel c's record stand.
+pub fn channel_zeros(records: &[u8], c: ChannelNo) -> bool
+    requires { c.0 < channel_count records.now }
+    ensures { result ≡ zeros records.now (8 * c.0 + 2) 2 }
+{
+    zeros_of(records, c.0 as usize)
+}
+
 // How many places a file of n bytes has.
 pub fn places(n: usize) -> usize
     ensures { result ≡ needed n }
@@ -187,22 +203,20 @@ pub fn count_free_blocks(records: &[u8]) -> usize
     count_blocks(records, FileNo::NONE, 0)
 }
 
-// The lowest file of a kind, if there is one. Record r is file r + 1's.
-pub fn find_file(records: &[u8], kind: Kind) -> Option<FileNo>
+// The lowest file of a kind, if there is one. Kind 0: the lowest free one. Record r is file r + 1's.
+pub fn find_file(records: &[u8], kind: u8) -> Option<FileNo>
     requires { file_count records.now < 65536 }
-    ensures { result ≡ file_found (file_count records.now) (file_with records.now (kind_number kind)) }
+    ensures { result ≡ file_found (file_count records.now) (file_with records.now kind) }
 {
-    let wanted = u8::from(kind);
-    let r = lowest(records.len() / 8, |r| one_at(records, 8 * r) == wanted)?;
+    let r = lowest(records.len() / 8, |r| one_at(records, 8 * r) == kind)?;
     Some(FileNo(r as u16 + 1))
 }
 
-// How many file records have a kind.
-pub fn count_files(records: &[u8], kind: Kind) -> usize
-    ensures { result ≡ files_with records.now (kind_number kind) }
+// How many file records have a kind. Kind 0: how many are free.
+pub fn count_files(records: &[u8], kind: u8) -> usize
+    ensures { result ≡ files_with records.now kind }
 {
-    let wanted = u8::from(kind);
-    how_many(records.len() / 8, |r| one_at(records, 8 * r) == wanted)
+    how_many(records.len() / 8, |r| one_at(records, 8 * r) == kind)
 }
 
 // The lowest channel that holds file f, if there is one. Of FileNo::NONE: the lowest free one.

@@ -1,7 +1,19 @@
 -- Laws of a row of bytes that is cut where a byte stands first.
-use Rattle.std.proofs.Common.{ℕ, ◌+◌, ◌-◌, ◌≤◌, ◌<◌, ◌≡◌, refl, List, true, false, Bool, Some, None, ltb, length, length-drop, take, drop, arith, sym, ap, take_all, lt-ltb, le-ltb, ltb-true, ltb-false}
+use Rattle.std.proofs.Common.{ℕ, ◌+◌, ◌-◌, ◌≤◌, ◌<◌, ◌≡◌, refl, List, true, false, Bool, Some, None, eqb, ltb, length, length-drop, take, drop, arith, sym, ap, take_all, lt-ltb, le-ltb, ltb-true, ltb-false}
 use Rattle.records.specs.Rows.{pick, found_below}
+use Rattle.records.specs.RowLaws.{lowest-within}
+use Rattle.records.specs.Numbers.{one}
+use Rattle.text.specs.Line.{space, word_end}
 use Rattle.text.specs.Commands.{first_of, behind}
+
+pub first-within : (b : ℕ) (bytes : List ℕ) → first_of b bytes ≤ length bytes
+unfolding first_of
+first-within b bytes = lowest-within (length bytes) (λ i. eqb (one bytes i) b)
+
+-- a word's end is where a space stands first
+pub word_end_lem : (bytes : List ℕ) → first_of space bytes ≡ word_end bytes
+unfolding first_of word_end
+word_end_lem bytes = refl
 
 -- found, and so within
 pub found-some : (n i k : ℕ) → Some k ≡ found_below n i → (k ≡ i) × (i < n)

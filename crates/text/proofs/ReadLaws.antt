@@ -41,10 +41,15 @@ module _ (call : List ℕ → Call) where
   some_data [] t e = rw e
   some_data (b ∷ row) t e = let f : t ≡ false = e ∙ ne_eqb (length (b ∷ row)) 0 (λ (z : length (b ∷ row) ≡ 0). omega arith) in rw f
 
-  pub data_taken : (bytes : Bor (List ℕ)) (t : Bool) → t ≡ (length bytes.now == 0)
+  some_taken : (bytes : Bor (List ℕ)) (t : Bool) → t ≡ (length bytes.now == 0)
       → option_map (λ (b : Bor (List ℕ)). call b.now) (then_some (not t) bytes) ≡ the_data call (Some bytes.now)
-  data_taken bytes true e = some_data bytes.now true e
-  data_taken bytes false e = some_data bytes.now false e
+  some_taken bytes true e = some_data bytes.now true e
+  some_taken bytes false e = some_data bytes.now false e
+
+  pub data_taken : (rest : Option (Bor (List ℕ))) (bytes : Bor (List ℕ)) (t : Bool) (r : Option (Bor (List ℕ))) → rest ≡ Some bytes
+      → t ≡ (length bytes.now == 0) → r ≡ then_some (not t) bytes
+      → option_map (λ (b : Bor (List ℕ)). call b.now) r ≡ the_data call (option_copied rest)
+  data_taken rest bytes t r e f g = rw (e, g) (some_taken bytes t f)
 
 -- ---- read's count
 

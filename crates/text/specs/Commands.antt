@@ -16,23 +16,23 @@ unfoldable pub behind : ℕ → List ℕ → Option (List ℕ)
 behind b bytes = pick (ltb (first_of b bytes) (length bytes)) (Some (drop (first_of b bytes + 1) bytes)) None
 
 -- the call that a command stands for
-abbrev pub call_of : Command → Call
-call_of C.Prepare = Prepare
-call_of C.Room = Room
-call_of (C.Create name) = Create name.now
-call_of (C.Open name) = Open name.now
-call_of (C.Unlink name) = Unlink name.now
-call_of (C.Mkdir name) = Mkdir name.now
-call_of (C.Rmdir name) = Rmdir name.now
-call_of (C.Link old new) = Link old.now new.now
-call_of (C.Move old new) = Move old.now new.now
-call_of (C.Ls name) = Ls name.now lent_bytes
-call_of (C.Close c) = Close c
-call_of (C.Fstat c) = Fstat c
-call_of (C.Read c count) = Read c count
-call_of (C.Write c bytes) = Write c bytes.now
-call_of (C.Seek c mode n) = Seek c mode n
+abbrev pub command_call : Command → Call
+command_call C.Prepare = Prepare
+command_call C.Room = Room
+command_call (C.Create name) = Create name.now
+command_call (C.Open name) = Open name.now
+command_call (C.Unlink name) = Unlink name.now
+command_call (C.Mkdir name) = Mkdir name.now
+command_call (C.Rmdir name) = Rmdir name.now
+command_call (C.Link old new) = Link old.now new.now
+command_call (C.Move old new) = Move old.now new.now
+command_call (C.Ls name) = Ls name.now lent_bytes
+command_call (C.Close c) = Close c
+command_call (C.Fstat c) = Fstat c
+command_call (C.Read c count) = Read c count
+command_call (C.Write c bytes) = Write c bytes.now
+command_call (C.Seek c mode n) = Seek c mode n
 
 -- the same of what a line asks for
 abbrev pub commanded : Option Command → Option Call
-commanded = option_map call_of
+commanded = option_map command_call

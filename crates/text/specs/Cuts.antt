@@ -1,6 +1,6 @@
 -- The lines of an input that comes in parts. A line ends at a newline and nowhere else, so where the input is cut plays no part.
-use Rattle.std.specs.Prelude.{ℕ, zero, suc, ◌+◌, ◌≤◌, ◌<◌, ◌≡◌, refl, List, [], ◌∷◌, ◌++◌, Bool, true, false, length, take, eqb}
-use Rattle.std.proofs.Common.{sym, ap, ◌∙◌, ⊎_elim, append_assoc, append-nil, add-one, arith}
+use Rattle.std.specs.Prelude.{ℕ, zero, suc, ◌+◌, ◌-◌, ◌≤◌, ◌<◌, ◌≡◌, refl, List, [], ◌∷◌, ◌++◌, Bool, true, false, length, take, drop, eqb}
+use Rattle.std.proofs.Common.{sym, ap, ◌∙◌, ⊎_elim, append_assoc, append-nil, add-one, arith, drop-drop, take-add}
 use Rattle.records.specs.Rows.{pick, lowest, lowest_from}
 use Rattle.records.specs.Tests.{tested}
 use Rattle.records.specs.Numbers.{one}
@@ -8,7 +8,7 @@ use Rattle.meaning.specs.Tables.{Tables}
 use Rattle.text.specs.Print.{newline, served, transcript}
 use Rattle.text.specs.Program.{completed, remaining, after_lines}
 use Rattle.text.specs.Commands.{first_of}
-use Rattle.text.specs.Gathering.{first_line}
+use Rattle.text.specs.Gathering.{first_line, part}
 
 -- ---- two parts, one behind the other
 
@@ -49,6 +49,29 @@ transcript_both [] ys t = refl
 transcript_both (line ∷ xs) ys t =
     ap (λ bytes. (served line t).prints ++ newline ∷ bytes) (transcript_both xs ys (served line t).tables)
     ∙ sym (append_assoc (served line t).prints (newline ∷ transcript xs (served line t).tables) (transcript ys (after_lines xs (served line t).tables)))
+
+-- a part is so many bytes from a place on
+pub part_is : (piece : List ℕ) (from to : ℕ) → part piece from to ≡ take (to - from) (drop from piece)
+unfolding part
+part_is piece from to = refl
+
+-- a piece's bytes up to a place, and from there on
+pub part_both : (piece : List ℕ) (from middle to : ℕ) → from ≤ middle → middle ≤ to → part piece from to ≡ part piece from middle ++ part piece middle to
+unfolding part
+part_both piece from middle to h k =
+    let all : to - from ≡ (middle - from) + (to - middle) = omega arith in
+    let there : from + (middle - from) ≡ middle = omega arith in
+    rw (all, take-add (middle - from) (to - middle) (drop from piece), drop-drop (middle - from) from piece, there)
+
+-- from a place up to itself there is nothing
+pub part-nothing : (piece : List ℕ) (from : ℕ) → part piece from from ≡ []
+unfolding part
+part-nothing piece from = let e : from - from ≡ 0 = omega arith in rw e
+
+-- from the start on
+pub part_start : (piece : List ℕ) (to : ℕ) → part piece 0 to ≡ take to piece
+unfolding part
+part_start piece to = let e : to - 0 ≡ to = omega arith in rw e
 
 -- ---- one line at a time
 

@@ -1,12 +1,35 @@
--- A piece of the input by its first line: the line ends in the piece, and the rest stands behind the newline; or it goes on.
+-- What is known of the line so far, by its two cases. A piece of the input by its first line: the line ends in the piece, and the
+-- rest stands behind the newline; or it goes on.
 use Rattle.std.specs.Prelude.{ℕ, ◌+◌, ◌≤◌, ◌<◌, ◌≡◌, refl, List, [], ◌∷◌, ◌++◌, Bool, true, false, None, Some, length, take, drop, ltb}
-use Rattle.std.proofs.Common.{ap, ◌∙◌, arith, take_all, length-drop, ltb-true, ltb-false, take-append-drop}
+use Rattle.std.proofs.Common.{ap, subst, sym, true≢false, ◌∙◌, arith, take_all, length-drop, length-take-le, ltb-true, ltb-false, take-append-drop}
 use Rattle.records.specs.Rows.{pick}
+use Rattle.text.specs.Line.{longest_line}
 use Rattle.text.specs.Print.{newline}
 use Rattle.text.specs.Program.{completed, remaining}
 use Rattle.text.specs.Commands.{first_of, behind}
-use Rattle.text.specs.Gathering.{first_line}
+use Rattle.text.specs.Gathering.{Kept, Pends, first_line}
+use Rattle.text.specs.declared.lines.Pending.{Pending}
 use Rattle.text.specs.Cuts.{completed_both, remaining_both, line_ends, line_ended, line_goes_on, line_grows}
+
+-- ---- the line so far
+
+module _ (line : List ℕ) (p : Pending) (pends : Pends line p) where
+  pub too_long : p.long ≡ true → longest_line < length line
+  too_long e = subst (λ t. Kept t p.len p.bytes line) e pends.keeps
+
+  pub in_buffer : p.long ≡ false → line ≡ take p.len p.bytes
+  in_buffer e = subst (λ t. Kept t p.len p.bytes line) e pends.keeps
+
+  -- its length is what is kept
+  pub pending_length : p.long ≡ false → longest_line ≤ length p.bytes → length line ≡ p.len
+  pending_length e h = let f = pends.fits e in rw (in_buffer e) (length-take-le p.len p.bytes (omega arith))
+
+-- a line of which it is known that it is too long
+pub still_long : (line : List ℕ) (p : Pending) → p.long ≡ true → longest_line < length line → Pends line p
+still_long line p e h =
+    record { fits = λ f. absurd (true≢false (sym e ∙ f)); keeps = subst (λ t. Kept t p.len p.bytes line) (sym e) h }
+
+-- ---- a piece
 
 module _ (piece : List ℕ) where
   ends_at : ℕ

@@ -6,6 +6,8 @@ pub mod Examples
 pub mod Commands
 pub mod Words
 pub mod Arguments
+pub mod Lays
+pub mod LaysLaws
 pub mod Gathering
 pub mod Cuts
 pub mod GatheringLaws

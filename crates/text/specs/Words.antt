@@ -15,20 +15,20 @@ unfoldable pub to_seek : Option (List ℕ) → Option Call
 to_seek = a_number λ c. a_number λ mode. last_number (Call.Seek c mode)
 
 -- none follows where there is no word
-abbrev pub form_of : Option Word → Option (List ℕ) → Option Call
-form_of None rest = None
-form_of (Some W.Prepare) rest = nothing Call.Prepare rest
-form_of (Some W.Create) rest = a_name Call.Create rest
-form_of (Some W.Open) rest = a_name Call.Open rest
-form_of (Some W.Close) rest = last_number Call.Close rest
-form_of (Some W.Read) rest = to_read rest
-form_of (Some W.Write) rest = to_write rest
-form_of (Some W.Seek) rest = to_seek rest
-form_of (Some W.Fstat) rest = last_number Call.Fstat rest
-form_of (Some W.Link) rest = two_names Call.Link rest
-form_of (Some W.Unlink) rest = a_name Call.Unlink rest
-form_of (Some W.Move) rest = two_names Call.Move rest
-form_of (Some W.Ls) rest = a_name (λ name. Call.Ls name lent_bytes) rest
-form_of (Some W.Mkdir) rest = a_name Call.Mkdir rest
-form_of (Some W.Rmdir) rest = a_name Call.Rmdir rest
-form_of (Some W.Room) rest = nothing Call.Room rest
+abbrev pub call_of : Option Word → Option (List ℕ) → Option Call
+call_of None rest = None
+call_of (Some W.Prepare) rest = nothing Call.Prepare rest
+call_of (Some W.Create) rest = a_name Call.Create rest
+call_of (Some W.Open) rest = a_name Call.Open rest
+call_of (Some W.Close) rest = last_number Call.Close rest
+call_of (Some W.Read) rest = to_read rest
+call_of (Some W.Write) rest = to_write rest
+call_of (Some W.Seek) rest = to_seek rest
+call_of (Some W.Fstat) rest = last_number Call.Fstat rest
+call_of (Some W.Link) rest = two_names Call.Link rest
+call_of (Some W.Unlink) rest = a_name Call.Unlink rest
+call_of (Some W.Move) rest = two_names Call.Move rest
+call_of (Some W.Ls) rest = a_name (λ name. Call.Ls name lent_bytes) rest
+call_of (Some W.Mkdir) rest = a_name Call.Mkdir rest
+call_of (Some W.Rmdir) rest = a_name Call.Rmdir rest
+call_of (Some W.Room) rest = nothing Call.Room rest

@@ -33,7 +33,8 @@ pub fn ended(rest: Option<&[u8]>) -> Option<()>
 fn a_word<'a>(rest: Option<&'a [u8]>) -> Option<(&'a [u8], Option<&'a [u8]>)>
     ensures { (k : List ℕ → Option (List ℕ) → Option Call) → taken result k ≡ a_word k (option_copied rest.entry) }
 {
-    let (word, behind) = first_word(rest?);
+    let bytes = rest?;
+    let (word, behind) = first_word(bytes);
     (!word.is_empty()).then_some((word, behind))
 }
 

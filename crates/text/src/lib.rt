@@ -11,7 +11,7 @@ ghost use Rattle.std.specs.Prelude.{◌≡◌};
 ghost use Rattle.std.specs.Option.{option_copied};
 ghost use Rattle.text.specs.Line.{asked};
 ghost use Rattle.text.specs.Commands.{commanded};
-ghost use Rattle.text.specs.Words.{form_of};
+ghost use Rattle.text.specs.Words.{call_of};
 
 use arguments::{ended, first_word, name, names, number, to_read, to_seek, to_write};
 use lines::LONGEST_LINE;
@@ -50,7 +50,7 @@ pub fn parse<'a>(line: &'a [u8]) -> Option<Command<'a>>
 
 // What a word and what follows it ask for.
 fn asked_by<'a>(word: Word, rest: Option<&'a [u8]>) -> Option<Command<'a>>
-    ensures { commanded result ≡ form_of (Some word) (option_copied rest.entry) }
+    ensures { commanded result ≡ call_of (Some word) (option_copied rest.entry) }
 {
     match word {
         Word::Prepare => {

@@ -8,31 +8,38 @@ ghost use Rattle.text.specs.Program.{unended};
 ghost use Rattle.text.specs.Commands.{commanded, behind};
 ghost use Rattle.text.specs.Gathering.{first_line, Fits, Pends};
 
+use crate::print::put_bytes;
 use crate::search::cut;
 use crate::{Command, parse};
-use arrayvec::ArrayVec;
 
 // A line is not longer.
 pub const LONGEST_LINE: usize = 1024;
 
-// A line that has not ended: the bytes that have come, or None where there are too many.
-pub type Pending = Option<ArrayVec<u8, LONGEST_LINE>>;
+// A line that has not ended: so many of its bytes have come and are kept, or it is too long.
+#[derive(Clone, Copy)]
+pub struct Pending {
+    pub bytes: [u8; LONGEST_LINE],
+    pub len: usize,
+    pub long: bool,
+}
 
 // A line of which nothing has come.
 pub fn fresh() -> Pending
     ensures { Pends [] result }
 {
-    Some(ArrayVec::new())
+    Pending {
+        bytes: [0; LONGEST_LINE],
+        len: 0,
+        long: false,
+    }
 }
 
 // Begins the next line.
 pub fn begin(line: &mut Pending)
     ensures { Pends [] line.new }
 {
-    match line {
-        Some(kept) => kept.clear(),
-        None => *line = fresh(),
-    }
+    line.len = 0;
+    line.long = false;
 }
 
 // The line with more bytes behind it.
@@ -40,12 +47,17 @@ fn append(line: &mut Pending, bytes: &[u8])
     ensures appends { (before : List ℕ) → Pends before line.old → Pends (before ++ bytes.now) line.new }
     ensures fits { Fits line.new }
 {
-    let fits = match line {
-        Some(kept) => kept.try_extend_from_slice(bytes).is_ok(),
-        None => false,
-    };
-    if !fits {
-        *line = None;
+    if line.long {
+        return;
+    }
+    let too_long = line.len.saturating_add(bytes.len()) > LONGEST_LINE;
+    if too_long {
+        line.long = true;
+        return;
+    }
+    // An empty line takes no copy.
+    if !bytes.is_empty() {
+        line.len = put_bytes(&mut line.bytes, line.len, bytes);
     }
 }
 
@@ -65,18 +77,18 @@ pub fn ask<'a>(line: &'a Pending) -> Option<Command<'a>>
     ensures asked { (bytes : List ℕ) → Pends bytes line.now → commanded result ≡ asked bytes }
     ensures some_line { (bytes : List ℕ) × (commanded result ≡ asked bytes) }
 {
-    match line {
-        Some(kept) => parse(kept.as_slice()),
-        None => None,
+    if line.long {
+        return None;
     }
+    if line.len > LONGEST_LINE {
+        return None;
+    }
+    parse(&line.bytes[..line.len])
 }
 
 // Whether there is a line where the input ends.
 pub fn has_line(line: &Pending) -> bool
     ensures { (bytes : List ℕ) → Pends bytes line.now → unended bytes ≡ pick result (bytes ∷ []) [] }
 {
-    match line {
-        Some(kept) => !kept.is_empty(),
-        None => true,
-    }
+    line.long || line.len > 0
 }

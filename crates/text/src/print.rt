@@ -1,41 +1,67 @@
-// Answers as lines of text, printed behind what the output holds. A number takes at most ten digits, and one byte before or behind it.
+// Answers as lines of text, printed into a lent buffer from a place on. Each function answers the next place.
+// A number takes at most ten digits, and one byte before or behind it.
 ghost use Rattle.std.specs.Prelude.{◌≡◌, ℕ, [], ◌∷◌, ◌++◌, ◌+◌, ◌*◌, ◌≤◌, ◌<◌, length};
-ghost use Rattle.arrayvec.specs.ArrayVec.{array_vec_len};
-ghost use Rattle.meaning.specs.Run.{accepted};
+ghost use Rattle.meaning.specs.Run.{number_of};
 ghost use Rattle.meaning.specs.Answers.{answered, counted};
+ghost use Rattle.text.specs.Line.{space};
 ghost use Rattle.text.specs.Print.{decimal, hex_digit, hex, hex_word, spaced, printed, newline, question};
+ghost use Rattle.text.specs.Lays.{Lays, LaysAtMost};
 
-use arrayvec::ArrayVec;
-use itoa::Buffer;
 use meaning::Report;
 use meaning::values::Values;
 
-// How many bytes the output holds before they are written.
-pub const OUTPUT: usize = 65536;
+// ---- bytes, numbers, hex
 
-pub type Output = ArrayVec<u8, OUTPUT>;
-
-// A number in decimal.
-pub fn put_decimal(out: &mut Output, n: u32)
-    requires { array_vec_len out.old + 10 ≤ OUTPUT }
-    ensures items { out.new.items ≡ out.old.items ++ decimal n }
-    ensures len { array_vec_len out.new ≤ array_vec_len out.old + 10 }
+// One byte.
+pub fn put_byte(out: &mut [u8], at: usize, b: u8) -> usize
+    requires { at < length out.old }
+    ensures { Lays out.old at (b ∷ []) out.new result }
 {
-    let mut digits = Buffer::new();
-    out.try_extend_from_slice(digits.format(n).as_bytes())
-        .unwrap();
+    out[at] = b;
+    at + 1
+}
+
+// Bytes as they are.
+pub fn put_bytes(out: &mut [u8], at: usize, bytes: &[u8]) -> usize
+    requires { at + length bytes.now ≤ length out.old }
+    ensures { Lays out.old at bytes.now out.new result }
+{
+    let end = at + bytes.len();
+    out[at..end].copy_from_slice(bytes);
+    end
+}
+
+// A number in decimal: the digits before its last one, and that digit.
+pub fn put_decimal(out: &mut [u8], at: usize, n: u32) -> usize
+    requires { at + 10 ≤ length out.old }
+    ensures { LaysAtMost 10 out.old at (decimal n) out.new result }
+{
+    if n < 10 {
+        return put_byte(out, at, b'0' + n as u8);
+    }
+    let next = put_decimal(out, at, n / 10);
+    put_byte(out, next, b'0' + (n % 10) as u8)
+}
+
+// A number after a space.
+fn put_number(out: &mut [u8], at: usize, n: u32) -> usize
+    requires { at + 11 ≤ length out.old }
+    ensures { LaysAtMost 11 out.old at (space ∷ decimal n) out.new result }
+{
+    let next = put_byte(out, at, b' ');
+    put_decimal(out, next, n)
 }
 
 // Numbers, each after a space.
-fn put_numbers(out: &mut Output, numbers: &[u32])
-    requires { array_vec_len out.old + 11 * length numbers.now ≤ OUTPUT }
-    ensures items { out.new.items ≡ out.old.items ++ spaced numbers.now }
-    ensures len { array_vec_len out.new ≤ array_vec_len out.old + 11 * length numbers.now }
+fn put_numbers(out: &mut [u8], at: usize, numbers: &[u32]) -> usize
+    requires { at + 11 * length numbers.now ≤ length out.old }
+    ensures { LaysAtMost (11 * length numbers.now) out.old at (spaced numbers.now) out.new result }
 {
+    let mut next = at;
     for n in numbers {
-        out.push(b' ');
-        put_decimal(out, *n);
+        next = put_number(out, next, *n);
     }
+    next
 }
 
 // Hex is lower case.
@@ -46,82 +72,90 @@ fn hex_digit(n: u8) -> u8
     if n < 10 { 48 + n } else { 87 + n }
 }
 
-// Bytes in hex, two digits for each. By hand: the kit's hex fills a slice of just that length, or allocates.
-fn hex_row(bytes: &[u8], row: &mut [u8])
-    requires { length row.old ≡ 2 * length bytes.now }
-    ensures { row.new ≡ hex bytes.now }
+// A byte in hex: two digits.
+fn put_hex_byte(out: &mut [u8], at: usize, b: u8) -> usize
+    requires { at + 2 ≤ length out.old }
+    ensures { Lays out.old at (hex (b ∷ [])) out.new result }
 {
-    for i in 0..bytes.len() {
-        row[2 * i] = hex_digit(bytes[i] / 16);
-        row[2 * i + 1] = hex_digit(bytes[i] % 16);
-    }
+    let next = put_byte(out, at, hex_digit(b / 16));
+    put_byte(out, next, hex_digit(b % 16))
 }
 
-// The same behind what the output holds, 64 bytes at a time: a push a digit is slower.
-pub fn put_hex(out: &mut Output, bytes: &[u8])
-    requires { array_vec_len out.old + 2 * length bytes.now ≤ OUTPUT }
-    ensures items { out.new.items ≡ out.old.items ++ hex bytes.now }
-    ensures len { array_vec_len out.new ≡ array_vec_len out.old + 2 * length bytes.now }
+// Bytes in hex.
+pub fn put_hex(out: &mut [u8], at: usize, bytes: &[u8]) -> usize
+    requires { at + 2 * length bytes.now ≤ length out.old }
+    ensures { Lays out.old at (hex bytes.now) out.new result }
 {
-    let mut row = [0; 128];
-    let mut rest = bytes;
-    while !rest.is_empty() {
-        let (part, behind) = rest.split_at(rest.len().min(64));
-        let digits = &mut row[..2 * part.len()];
-        hex_row(part, digits);
-        out.try_extend_from_slice(digits).unwrap();
-        rest = behind;
+    let mut next = at;
+    for b in bytes {
+        next = put_hex_byte(out, next, *b);
     }
+    next
 }
 
 // Bytes as one hex word after a space; nothing where there are none.
-fn put_hex_word(out: &mut Output, bytes: &[u8])
-    requires { array_vec_len out.old + 1 + 2 * length bytes.now ≤ OUTPUT }
-    ensures items { out.new.items ≡ out.old.items ++ hex_word bytes.now }
-    ensures len { array_vec_len out.new ≤ array_vec_len out.old + 1 + 2 * length bytes.now }
+fn put_hex_word(out: &mut [u8], at: usize, bytes: &[u8]) -> usize
+    requires { at + 1 + 2 * length bytes.now ≤ length out.old }
+    ensures { Lays out.old at (hex_word bytes.now) out.new result }
 {
-    if !bytes.is_empty() {
-        out.push(b' ');
-        put_hex(out, bytes);
+    if bytes.is_empty() {
+        return at;
     }
+    let next = put_byte(out, at, b' ');
+    put_hex(out, next, bytes)
 }
+
+// ---- answers, each a line with its newline
 
 // A line that is no call.
-pub fn print_unknown(out: &mut Output)
-    requires { array_vec_len out.old + 2 ≤ OUTPUT }
-    ensures { out.new.items ≡ out.old.items ++ question ++ newline ∷ [] }
+pub fn print_unknown(out: &mut [u8], at: usize) -> usize
+    requires { at + 2 ≤ length out.old }
+    ensures { Lays out.old at (question ++ newline ∷ []) out.new result }
 {
-    out.push(b'?');
-    out.push(b'\n');
+    let next = put_byte(out, at, b'?');
+    put_byte(out, next, b'\n')
 }
 
-// The line of an answer: the report, and the numbers of an accepted call.
-pub fn print_answer<const N: usize, T: Values<N>>(out: &mut Output, answer: Result<T, Report>)
-    requires { array_vec_len out.old + 11 * (1 + N) ≤ OUTPUT }
-    ensures { (n : ℕ) → out.new.items ≡ out.old.items ++ printed (answered n T.numbers answer) [] ++ newline ∷ [] }
+// The report of a call that was refused.
+fn print_refusal(out: &mut [u8], at: usize, why: Report) -> usize
+    requires { at + 11 ≤ length out.old }
+    ensures { Lays out.old at (decimal (number_of why) ++ newline ∷ []) out.new result }
+{
+    let next = put_decimal(out, at, u32::from(why));
+    put_byte(out, next, b'\n')
+}
+
+// The report, and the numbers of an accepted call.
+pub fn print_answer<const N: usize, T: Values<N>>(
+    out: &mut [u8],
+    at: usize,
+    answer: Result<T, Report>,
+) -> usize
+    requires { at + 11 * (1 + N) ≤ length out.old }
+    ensures { (n : ℕ) → Lays out.old at (printed (answered n T.numbers answer) [] ++ newline ∷ []) out.new result }
 {
     match answer {
         Ok(values) => {
-            out.push(b'0');
-            put_numbers(out, &values.numbers());
+            let next = put_byte(out, at, b'0');
+            let end = put_numbers(out, next, &values.numbers());
+            put_byte(out, end, b'\n')
         }
-        Err(why) => put_decimal(out, u32::from(why)),
+        Err(why) => print_refusal(out, at, why),
     }
-    out.push(b'\n');
 }
 
-// The line of a count, and of so many bytes in hex.
-pub fn print_counted(out: &mut Output, answer: Result<u32, Report>, bytes: &[u8])
-    requires { array_vec_len out.old + 23 + 2 * length bytes.now ≤ OUTPUT }
-    ensures { out.new.items ≡ out.old.items ++ printed (counted answer) bytes.now ++ newline ∷ [] }
+// A count, and so many bytes in hex.
+pub fn print_counted(out: &mut [u8], at: usize, answer: Result<u32, Report>, bytes: &[u8]) -> usize
+    requires { at + 23 + 2 * length bytes.now ≤ length out.old }
+    ensures { Lays out.old at (printed (counted answer) bytes.now ++ newline ∷ []) out.new result }
 {
     match answer {
         Ok(n) => {
-            out.push(b'0');
-            put_numbers(out, &[n]);
-            put_hex_word(out, bytes);
+            let next = put_byte(out, at, b'0');
+            let behind = put_number(out, next, n);
+            let end = put_hex_word(out, behind, bytes);
+            put_byte(out, end, b'\n')
         }
-        Err(why) => put_decimal(out, u32::from(why)),
+        Err(why) => print_refusal(out, at, why),
     }
-    out.push(b'\n');
 }

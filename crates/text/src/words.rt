@@ -1,7 +1,7 @@
 // The words that a line can begin with.
 ghost use Rattle.std.specs.Prelude.{◌≡◌, List, ℕ, Option};
 ghost use Rattle.text.specs.Line.{formed, forms};
-ghost use Rattle.text.specs.Words.{form_of};
+ghost use Rattle.text.specs.Words.{call_of};
 
 #[derive(Clone, Copy)]
 pub enum Word {
@@ -25,7 +25,7 @@ pub enum Word {
 // Which of the words it is, if it is one.
 #[tactic(auto, unfolding(crate::specs::Line::forms, crate::specs::Line::formed, meaning::specs::Name::same, meaning::specs::Text::text, crate::specs::Words::to_read, crate::specs::Words::to_write, crate::specs::Words::to_seek), using(crate::proofs::WordLaws::other_six, crate::proofs::WordLaws::other_seven, crate::proofs::WordLaws::longer))]
 pub fn word_of(word: &[u8]) -> Option<Word>
-    ensures { (rest : Option (List ℕ)) → form_of result rest ≡ formed forms word.now rest }
+    ensures { (rest : Option (List ℕ)) → call_of result rest ≡ formed forms word.now rest }
 {
     match word {
         b"prepare" => Some(Word::Prepare),

@@ -1,7 +1,8 @@
 -- Unlink: what its plan stands for.
-use Rattle.std.specs.Prelude.{ℕ, ◌≤◌, ◌<◌, [], ◌∷◌, List, Option, Some, None, Result as Answers}
+use Rattle.std.specs.Prelude.{ℕ, ◌≤◌, ◌<◌, [], ◌∷◌, List, eqb, Option, Some, None, Result as Answers}
+use Rattle.records.specs.Rows.{pick}
 use Rattle.meaning.specs.Name.{blank_record}
-use Rattle.meaning.specs.Store.{file}
+use Rattle.meaning.specs.Store.{Change, file, no_file}
 use Rattle.meaning.specs.NameCalls.{rewritten}
 use Rattle.meaning.specs.Tables.{Tables, store_of, file_count}
 use Rattle.meaning.specs.Result.{Result, done}
@@ -15,6 +16,10 @@ use Rattle.placing.specs.OldName.{freed}
 -- the directory and the place of the record that is made blank, and the file that goes
 abbrev pub Plan : Type 0
 Plan = FileNo × ℕ × Option FileNo
+
+-- file g goes; 0 means none
+unfoldable pub freeing : ℕ → List Change
+freeing g = pick (eqb g 0) [] (file g no_file ∷ [])
 
 -- the result that a plan stands for
 abbrev pub planned : Tables → Plan → Result

@@ -25,7 +25,7 @@ use Rattle.tables.specs.declared.ChannelRecord.{ChannelRecord}
 use Rattle.tables.specs.declared.FileRecord.{FileRecord}
 use Rattle.files.specs.FileLaws.{clearable}
 use Rattle.counts.specs.OfStore.{OfStore, of_store}
-use Rattle.channels.specs.Held.{OnChannel, on_channel_of}
+use Rattle.channels.specs.Held.{OnChannel, Holds, on_channel_of}
 use Rattle.channels.specs.HeldLaws.{refuses, holding, gives, channel_there, file_there, file_used, kind_is}
 use Rattle.channels.specs.Close.{Closes}
 use Rattle.channels.specs.CloseLaws.{closed, holders, goes_where}
@@ -55,32 +55,35 @@ module _ (t : Tables) (c : ℕ) where
     abbrev f : ℕ
     f = ((store_of t).channel c).file
 
+    holds : Holds t c y
+    holds = holding t c y on
+
     given : rest t c ≡ result_of (Call.Close c) t
     given = gives t c y on (rest t c) ∙ on_channel_lem t c
 
     below : c < (store_of t).channel_count
     unfolding store_of
-    below = channel_there t c y on
+    below = channel_there t c y holds
 
     some : f ≢ 0
-    some = omega (arith, (file_there t c y on).0, (holding t c y on).file)
+    some = omega (arith, (file_there t c y holds).0, holds.file)
 
     used : in_use (store_of t) f ≡ true
-    used = rw (← (holding t c y on).file) (of_used (store_of t) y.file.0 (file_used t c y on))
+    used = rw (← holds.file) (of_used (store_of t) y.file.0 (file_used t c y holds))
 
     of_file : OfStore t.blocks t.block_records t.file_records y.file.0
-    of_file = of_store t (holding t c y on).ok y.file.0 (file_there t c y on).1
+    of_file = of_store t holds.ok y.file.0 (file_there t c y holds).1
 
     module _ (x : FileRecord) (read : FileRead t.file_records (y.file.0 - 1) x) where
       kind : ((store_of t).file f).kind ≡ x.kind
-      kind = kind_is t c y on ∙ sym read.kind
+      kind = kind_is t c y holds ∙ sym read.kind
 
       count : holders (store_of t) f ≡ channels_with t.channel_records y.file.0
       unfolding store_of channel_of channels_with
-      count = ap (channels_with t.channel_records) (sym (holding t c y on).file)
+      count = ap (channels_with t.channel_records) (sym holds.file)
 
       name-count : names (store_of t) f ≡ names (directories_store t.blocks t.block_records t.file_records) y.file.0
-      name-count = ap (names (store_of t)) (sym (holding t c y on).file) ∙ names-seen t.blocks t.block_records t.file_records t.channel_records y.file.0
+      name-count = ap (names (store_of t)) (sym holds.file) ∙ names-seen t.blocks t.block_records t.file_records t.channel_records y.file.0
 
       -- ordinary, held by one channel, named by no record: as the code asks it
       abbrev one_holder : Bool
@@ -93,15 +96,15 @@ module _ (t : Tables) (c : ℕ) where
       decides true e =
           let gone = goes_where (store_of t) c f below refl some used in
           record {
-            means = rw (gone, kind, count, name-count, e, ← (holding t c y on).file) at given;
+            means = rw (gone, kind, count, name-count, e, ← holds.file) at given;
             fits = record {
-              below = channel_there t c y on;
-              can_go = clearable t (sound_layout t (holding t c y on).ok) y.file.0 (file_there t c y on).0 (file_there t c y on).1;
+              below = channel_there t c y holds;
+              can_go = clearable t (sound_layout t holds.ok) y.file.0 (file_there t c y holds).0 (file_there t c y holds).1;
             };
           }
       decides false e =
           let gone = goes_where (store_of t) c f below refl some used in
-          record { means = rw (gone, kind, count, name-count, e) at given; fits = record { below = channel_there t c y on; can_go = tt } }
+          record { means = rw (gone, kind, count, name-count, e) at given; fits = record { below = channel_there t c y holds; can_go = tt } }
 
 pub returns-in_err-file : goal.returns-in_err-file
 returns-in_err-file c =
@@ -109,7 +112,7 @@ returns-in_err-file c =
     rw (p.1, p.2) (refusal _ _ _ c.in_err-file.ensures)
 
 pub file_record-requires : goal.file_record-requires
-file_record-requires c = file_there _ _ _ c.in_ok-file.ensures
+file_record-requires c = file_there _ _ _ (holding _ _ _ c.in_ok-file.ensures)
 
 pub names_of-requires : goal.names_of-requires
 names_of-requires c = of_file _ _ _ c.in_ok-file.ensures

@@ -69,8 +69,9 @@ module _ (t : Tables) (c mode n : ℕ) where
 
       leads-to : leads t c mode n ≡ to
       leads-to =
-          let p = (holding t c y on).posn in
-          let l = size_is t c y on in
+          let d = holding t c y on in
+          let p = d.posn in
+          let l = size_is t c y d in
           let r = read.length in
           let there = low.1 in
           cc
@@ -83,7 +84,7 @@ module _ (t : Tables) (c mode n : ℕ) where
       unfolding unless
       near m =
           let d = holding t c y on in
-          record { means = rw (low.0, leads-to, le-ltb last_position to m, ← d.file) at given; fits = channel_there t c y on }
+          record { means = rw (low.0, leads-to, le-ltb last_position to m, ← d.file) at given; fits = channel_there t c y d }
 
 pub returns-in_err-channel : goal.returns-in_err-channel
 returns-in_err-channel c =
@@ -91,7 +92,7 @@ returns-in_err-channel c =
     rw (p.1, p.2) (refusal _ _ _ _ _ c.in_err-channel.ensures)
 
 pub file_record-record-requires : goal.file_record-record-requires
-file_record-record-requires c = file_there _ _ _ c.in_ok-channel.ensures
+file_record-record-requires c = file_there _ _ _ (holding _ _ _ c.in_ok-channel.ensures)
 
 pub returns-in_err-to : goal.returns-in_err-to
 returns-in_err-to c =

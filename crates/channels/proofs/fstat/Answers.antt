@@ -1,11 +1,9 @@
 -- A refusal leaves all as it was; else the file's record says length and kind.
 use Prim.Native.Nat.{ℕ, ◌-◌}
 use mathlib.Core.Path.{◌≡◌, refl, sym, ap, ◌∙◌}
-use mathlib.Core.Bool.{Bool, true, false}
+use mathlib.Core.Logic.{◌≢◌}
 use mathlib.Core.List.{[], ◌∷◌}
-use lib.Dec.{eqb}
 use lib.ListN.{length}
-use borrow.Author.Tests.{eqb-true, eqb_apart}
 use Rattle.std.specs.Prelude.{Ok, Err}
 use Rattle.std.proofs.lemmas.Result.{err_from_is_err_and}
 use Rattle.meaning.specs.Tables.{Tables, store_of, put_all}
@@ -19,9 +17,9 @@ use Rattle.meaning.specs.declared.Report.{Report}
 use Rattle.tables.specs.declared.ChannelRecord.{ChannelRecord}
 use Rattle.tables.specs.declared.FileRecord.{FileRecord}
 use Rattle.tables.specs.Read.{FileRead}
-use Rattle.channels.specs.Held.{OnChannel, on_channel_of}
+use Rattle.channels.specs.Held.{OnChannel, Holds, on_channel_of}
 use Rattle.channels.specs.HeldLaws.{refuses, holding, gives, file_there, plain_file, size_is, kind_is}
-use Rattle.channels.proofs.fstat.Goals.{then-is, else-is}
+use Rattle.channels.proofs.fstat.Goals.{then-record, else-record}
 use Rattle.channels.proofs.fstat.Goals as goal
 
 abbrev rest : Tables → ℕ → Result
@@ -38,24 +36,27 @@ module _ (t : Tables) (c : ℕ) where
   refused_so why on = kept_refusal (Call.Fstat c) t [] why (refuses t c why on (rest t c) ∙ on_channel_lem t c)
 
   module _ (y : ChannelRecord) (on : OnChannel t c (Ok y)) (x : FileRecord) (read : FileRead t.file_records (y.file.0 - 1) x) where
+    holds : Holds t c y
+    holds = holding t c y on
+
     kind : ((store_of t).file ((store_of t).channel c).file).kind ≡ x.kind
-    kind = kind_is t c y on ∙ sym read.kind
+    kind = kind_is t c y holds ∙ sym read.kind
 
     -- a file in use is a directory or ordinary
-    directory : (is : Bool) → is ≡ eqb x.kind 2 → is ≡ true → kind_number Directory ≡ x.kind
-    directory is tells e = sym (eqb-true x.kind 2 (sym tells ∙ e))
+    directory : x.kind ≡ 2 → kind_number Directory ≡ x.kind
+    directory e = sym e
 
-    ordinary : (is : Bool) → is ≡ eqb x.kind 2 → is ≡ false → kind_number File ≡ x.kind
-    ordinary is tells e =
-        let same : ((store_of t).file y.file.0).kind ≡ x.kind = rw (holding t c y on).file kind in
-        sym (sym same ∙ (plain_file t c y on (rw same (eqb_apart x.kind 2 (sym tells ∙ e)))).kind)
+    ordinary : x.kind ≢ 2 → kind_number File ≡ x.kind
+    ordinary other =
+        let same : ((store_of t).file y.file.0).kind ≡ x.kind = rw holds.file kind in
+        sym (sym same ∙ (plain_file t c y holds (rw same other)).kind)
 
     told : (k : ℕ) → k ≡ x.kind → Promise (Call.Fstat c) t [] (record { answer = accepted (x.length ∷ y.file.0 ∷ k ∷ []); buffer = []; tables = t })
     unfolding put_all
     told k is =
-        let size = size_is t c y on ∙ sym read.length in
+        let size = size_is t c y holds ∙ sym read.length in
         let means : done (x.length ∷ y.file.0 ∷ k ∷ []) [] [] ≡ result_of (Call.Fstat c) t =
-        rw (size, kind, ← is, ← (holding t c y on).file) at (gives t c y on (rest t c) ∙ on_channel_lem t c) in
+        rw (size, kind, ← is, ← holds.file) at (gives t c y on (rest t c) ∙ on_channel_lem t c) in
         kept_done (Call.Fstat c) t [] (x.length ∷ y.file.0 ∷ k ∷ []) [] [] means t refl
 
 pub returns-in_err-channel : goal.returns-in_err-channel
@@ -64,12 +65,12 @@ returns-in_err-channel c =
     rw (p.1, p.2) (refused_so _ _ _ c.in_err-channel.ensures)
 
 pub file_record-record-requires : goal.file_record-record-requires
-file_record-record-requires c = file_there _ _ _ c.in_ok-channel.ensures
+file_record-record-requires c = file_there _ _ _ (holding _ _ _ c.in_ok-channel.ensures)
 
 pub returns : goal.returns
 returns c =
     told _ _ _ c.in_ok-channel.ensures _ c.file_record-record.ensures _
-    (elim c.if-is.branch [
-      | then-is w ↦ ap kind_number w.kind-is ∙ directory _ _ _ c.in_ok-channel.ensures _ c.file_record-record.ensures _ c.is.ensures w.if-is.true
-      | else-is w ↦ ap kind_number w.kind-is ∙ ordinary _ _ _ c.in_ok-channel.ensures _ c.file_record-record.ensures _ c.is.ensures w.if-is.false
+    (elim c.if-record.branch [
+      | then-record w ↦ ap kind_number w.kind-is ∙ directory _ _ _ c.in_ok-channel.ensures _ c.file_record-record.ensures w.if-record.true
+      | else-record w ↦ ap kind_number w.kind-is ∙ ordinary _ _ _ c.in_ok-channel.ensures _ c.file_record-record.ensures w.if-record.false
     ])

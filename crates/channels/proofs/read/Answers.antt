@@ -22,7 +22,7 @@ use Rattle.lookup.specs.Filed.{sound_well}
 use Rattle.tables.specs.declared.ChannelRecord.{ChannelRecord}
 use Rattle.files.specs.Files.{HasFile, Reads}
 use Rattle.files.specs.FileLaws.{has_file}
-use Rattle.channels.specs.Held.{OnChannel, on_channel_of}
+use Rattle.channels.specs.Held.{OnChannel, Holds, on_channel_of}
 use Rattle.channels.specs.HeldLaws.{refuses, holding, gives, channel_there, file_there, file_used, posn-within}
 use Rattle.channels.specs.Move.{moved_by}
 use Rattle.channels.proofs.read.Goals as goal
@@ -44,19 +44,22 @@ module _ (t : Tables) (c : ℕ) where
       kept_refusal (Call.Read c (length buffer)) t buffer why (refuses t c why on (rest t c (length buffer)) ∙ on_channel_lem t c (length buffer))
 
   module _ (y : ChannelRecord) (on : OnChannel t c (Ok y)) where
+    holds : Holds t c y
+    holds = holding t c y on
+
     has : HasFile t.blocks t.block_records t.file_records y.file.0
-    has = has_file t (sound_layout t (holding t c y on).ok) y.file.0 (file_there t c y on).0 (file_there t c y on).1
+    has = has_file t (sound_layout t holds.ok) y.file.0 (file_there t c y holds).0 (file_there t c y holds).1
 
     module _ (buffer after : List ℕ) (n : ℕ) (reads : Reads t.blocks t.block_records t.file_records y.file.0 y.position buffer after n) where
       near : y.position + n < 4294967296
       near =
-          let u = file_used t c y on in
+          let u = file_used t c y holds in
           omega (
             arith,
-            posn-within t c y on,
+            posn-within t c y holds,
             reads.counts t.channel_records,
             length-read ((store_of t).file y.file.0).bytes y.position (length buffer),
-            file-size (store_of t) (sound_well t (holding t c y on).ok) y.file.0 u.some u.within,
+            file-size (store_of t) (sound_well t holds.ok) y.file.0 u.some u.within,
           )
 
       gave : (next : ChannelRecord) → next ≡ moved_by y n
@@ -65,11 +68,10 @@ module _ (t : Tables) (c : ℕ) where
           (record { answer = accepted (n ∷ []); buffer = after; tables = tables t.blocks t.block_records t.file_records records })
       unfolding answer_of bytes_of changes_of put_all put
       gave next moved records p =
-          let d = holding t c y on in
           let out = readFILE ((store_of t).file y.file.0).bytes y.position (length buffer) in
           let result = done (n ∷ []) out (channel c (channel_to y.file.0 (y.position + n)) ∷ []) in
           let means : result ≡ result_of (Call.Read c (length buffer)) t =
-          rw (reads.counts t.channel_records, d.file, d.posn) (gives t c y on (rest t c (length buffer)) ∙ on_channel_lem t c (length buffer)) in
+          rw (reads.counts t.channel_records, holds.file, holds.posn) (gives t c y on (rest t c (length buffer)) ∙ on_channel_lem t c (length buffer)) in
           kept (Call.Read c (length buffer)) t buffer result means
           (record { answer = accepted (n ∷ []); buffer = after; tables = tables t.blocks t.block_records t.file_records records }) refl
           (reads.fills t.channel_records) (ap (tables t.blocks t.block_records t.file_records) (rw (p, moved)))
@@ -86,7 +88,7 @@ pub moved_by-next-requires : goal.moved_by-next-requires
 moved_by-next-requires c = near _ _ _ c.in_ok-channel.ensures _ _ _ c.read_file-n.ensures
 
 pub put_channel_record-requires : goal.put_channel_record-requires
-put_channel_record-requires c = channel_there _ _ _ c.in_ok-channel.ensures
+put_channel_record-requires c = channel_there _ _ _ (holding _ _ _ c.in_ok-channel.ensures)
 
 pub returns : goal.returns
 returns c = gave _ _ _ c.in_ok-channel.ensures _ _ _ c.read_file-n.ensures _ c.moved_by-next.ensures _ c.put_channel_record.ensures

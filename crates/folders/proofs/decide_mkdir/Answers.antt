@@ -1,5 +1,5 @@
 -- Each return is a case of what mkdir gives on a well-written name, by the tests that led there.
-use Rattle.std.specs.Prelude.{ℕ, ◌≡◌, ◌≢◌, List, Ok, Err}
+use Rattle.std.specs.Prelude.{ℕ, ◌≡◌, ◌≢◌, List, Option, Ok, Err}
 use Rattle.std.proofs.Common.{rules, subst}
 use Rattle.std.proofs.lemmas.Result.{err_from_is_err_and}
 use Rattle.meaning.specs.Tables.{Tables, tables}
@@ -26,7 +26,7 @@ module _ (b br fr cr bytes : List ℕ) (h : Judged) (on : OnName (tables b br fr
     at : At t bytes k x
     at = located_at b br fr cr bytes h on k e x l
 
-    nowhere_so : x ≡ Nowhere → Made t bytes (Err NoSuchName)
+    nowhere_so : (p : Option FileNo) → x ≡ Nowhere p → Made t bytes (Err NoSuchName)
     nowhere_so = no_directory t bytes k x at few
 
     in_use_so : (d f : FileNo) → x ≡ Old d f → Made t bytes (Err NameInUse)
@@ -55,7 +55,7 @@ pub decide_new-requires : goal.decide_new-requires
 decide_new-requires c = new_so _ _ _ _ _ _ c.judge_name.ensures _ c.in_ok-k.was (search rules) _ c.locate.ensures _ c.in-New.is
 
 pub returns-in-Nowhere : goal.returns-in-Nowhere
-returns-in-Nowhere c = nowhere_so _ _ _ _ _ _ c.judge_name.ensures _ c.in_ok-k.was (search rules) _ c.locate.ensures c.in-Nowhere.is
+returns-in-Nowhere c = nowhere_so _ _ _ _ _ _ c.judge_name.ensures _ c.in_ok-k.was (search rules) _ c.locate.ensures _ c.in-Nowhere.is
 
 pub returns-in-Old : goal.returns-in-Old
 returns-in-Old c = in_use_so _ _ _ _ _ _ c.judge_name.ensures _ c.in_ok-k.was (search rules) _ c.locate.ensures _ _ c.in-Old.is

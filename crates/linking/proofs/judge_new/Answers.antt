@@ -12,7 +12,7 @@ pub gone_with-requires : goal.gone_with-requires
 gone_with-requires c = can_count _ _ _ _ _ _ c.requires _ _ c.in-Old.is _ c.is_directory.ensures c.if-is_directory.false
 
 pub returns-in-Nowhere : goal.returns-in-Nowhere
-returns-in-Nowhere c = new-nowhere _ _ _ _ _ _ c.requires c.in-Nowhere.is
+returns-in-Nowhere c = new-nowhere _ _ _ _ _ _ c.requires _ c.in-Nowhere.is
 
 pub returns-in-New : goal.returns-in-New
 returns-in-New c = added _ _ _ _ _ _ c.requires _ c.in-New.is _ c.new_record.ensures

@@ -1,10 +1,10 @@
--- The names of the records passed are laid.
-use Rattle.std.proofs.Common.{◌+◌, ◌*◌, ◌≤◌, min}
-use Rattle.listing.specs.RunLaws.{Laid}
+-- The names of the runs passed are laid.
+use Rattle.std.proofs.Common.{◌≤◌}
+use Rattle.listing.specs.RunLaws.{Laid, passed}
 use Rattle.listing.proofs.lay_names.Given as goal
 
 abbrev pub invariant-loop-k : goal.invariant-loop-k
-invariant-loop-k l = (l.k ≤ 64) × Laid l.store.blocks.now l.store.block_records.now l.d.0 l.fn.buffer l.buffer l.end (min (32 * l.k) l.count)
-
-abbrev pub invariant-loop-j : goal.invariant-loop-j
-invariant-loop-j l = (l.j ≤ l.j-end) × Laid l.store.blocks.now l.store.block_records.now l.d.0 l.fn.buffer l.buffer l.end (32 * l.k + l.j)
+invariant-loop-k l =
+    let blocks = l.store.blocks.now in
+    let records = l.store.block_records.now in
+    (l.k ≤ 64) × Laid blocks records l.d.0 l.fn.buffer l.buffer l.end (passed blocks records l.d.0 l.count l.k)

@@ -25,15 +25,15 @@ module _ (b br fr bytes : List ℕ) (k : ℕ) (c : Counted (syllables bytes) k) 
   abbrev s : Store
   s = filed b br fr
 
-  nothing : x ≡ None → Locates s bytes Nowhere
-  nothing e = at_nowhere bytes k c s some' (no_directory s _ (none_is x _ walked e))
+  nothing : x ≡ None → Locates s bytes (Nowhere None)
+  nothing e = at_nowhere bytes k c s some' (no_directory s _ (none_is x _ walked e)) None (sym e ∙ walked)
 
   module _ (d : FileNo) (e : x ≡ Some d) (v : Bool) (tells : v ≡ is_directory (files_store fr) d.0) where
     in_d : d.0 ≡ walk s root (syllables_from bytes 1 (k - 1))
     in_d = (some_is x _ walked d e).1
 
-    no_directory_there : not v ≡ true → Locates s bytes Nowhere
-    no_directory_there n = at_nowhere bytes k c s some' (ap (is_directory s) (sym in_d) ∙ directory_here b br fr d.0 ∙ sym tells ∙ not-true v n)
+    no_directory_there : not v ≡ true → Locates s bytes (Nowhere (Some d))
+    no_directory_there n = at_nowhere bytes k c s some' (ap (is_directory s) (sym in_d) ∙ directory_here b br fr d.0 ∙ sym tells ∙ not-true v n) (Some d) (sym e ∙ walked)
 
     module _ (n : not v ≡ false) (syllable : List ℕ) (last : syllable ≡ part bytes (last_start bytes) (length bytes))
         (y : Option FileNo) (found : y ≡ file_numbered (within s d.0 syllable)) where

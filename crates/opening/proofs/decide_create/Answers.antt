@@ -14,7 +14,7 @@ pub locate-requires-clause-shelves : goal.locate-requires-clause-shelves
 locate-requires-clause-shelves c = judged_shelves _ _ _ _ _ _ c.in_ok-k.ensures
 
 pub returns-in-Nowhere : goal.returns-in-Nowhere
-returns-in-Nowhere c = no-directory _ _ _ (stands_at _ _ _ _ _ _ c.in_ok-k.ensures _ c.in-Nowhere.ensures)
+returns-in-Nowhere c = no-directory _ _ _ _ (stands_at _ _ _ _ _ _ c.in_ok-k.ensures _ c.in-Nowhere.ensures)
 
 pub returns-then-is_directory : goal.returns-then-is_directory
 returns-then-is_directory c = old-directory _ _ _ _ _ (stands_at _ _ _ _ _ _ c.in_ok-k.ensures _ c.in-Old.ensures) _ c.is_directory.ensures c.if-is_directory.true

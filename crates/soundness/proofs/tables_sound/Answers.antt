@@ -14,15 +14,15 @@ use Rattle.soundness.specs.Together.{met, unmet, in_turn_all}
 use Rattle.soundness.proofs.tables_sound.Goals as goal
 use Rattle.soundness.proofs.tables_sound.Goals.{
   Joined-lengths_agree,
-  Joined-zeros_stand,
-  Joined-zeros_stand-2,
+  Joined-file_zeros_stand,
+  Joined-channel_zeros_stand,
   Joined-files_sound,
   then-lengths_agree,
   else-lengths_agree,
-  then-zeros_stand,
-  else-zeros_stand,
-  then-zeros_stand-2,
-  else-zeros_stand-2,
+  then-file_zeros_stand,
+  else-file_zeros_stand,
+  then-channel_zeros_stand,
+  else-channel_zeros_stand,
   then-files_sound,
   else-files_sound,
 }
@@ -66,32 +66,32 @@ module _ (c : Joined-lengths_agree) where
   two_found : c.if-lengths_agree.value ≡ two (tables_of c.args.store.now)
   two_found =
       elim c.if-lengths_agree.branch [
-        | then-lengths_agree w ↦ met _ _ _ _ c.lengths_agree.ensures w.if-lengths_agree.true (w.value-is ∙ w.zeros_stand.ensures)
+        | then-lengths_agree w ↦ met _ _ _ _ c.lengths_agree.ensures w.if-lengths_agree.true (w.value-is ∙ w.file_zeros_stand.ensures)
         | else-lengths_agree w ↦ unmet _ _ _ _ c.lengths_agree.ensures w.if-lengths_agree.false w.value-is
       ]
 
-module _ (c : Joined-zeros_stand) where
-  three_found : c.if-zeros_stand.value ≡ three (tables_of c.args.store.now)
+module _ (c : Joined-file_zeros_stand) where
+  three_found : c.if-file_zeros_stand.value ≡ three (tables_of c.args.store.now)
   three_found =
-      let so_far = two_found (goal.at.Joined-zeros_stand c).Joined-lengths_agree in
-      elim c.if-zeros_stand.branch [
-        | then-zeros_stand w ↦ met _ _ _ _ so_far w.if-zeros_stand.true (w.value-is ∙ w.zeros_stand-then-zeros_stand.ensures)
-        | else-zeros_stand w ↦ unmet _ _ _ _ so_far w.if-zeros_stand.false w.value-is
+      let so_far = two_found (goal.at.Joined-file_zeros_stand c).Joined-lengths_agree in
+      elim c.if-file_zeros_stand.branch [
+        | then-file_zeros_stand w ↦ met _ _ _ _ so_far w.if-file_zeros_stand.true (w.value-is ∙ w.channel_zeros_stand.ensures)
+        | else-file_zeros_stand w ↦ unmet _ _ _ _ so_far w.if-file_zeros_stand.false w.value-is
       ]
 
-module _ (c : Joined-zeros_stand-2) where
-  four_found : c.if-zeros_stand-2.value ≡ four (tables_of c.args.store.now)
+module _ (c : Joined-channel_zeros_stand) where
+  four_found : c.if-channel_zeros_stand.value ≡ four (tables_of c.args.store.now)
   four_found =
-      let so_far = three_found (goal.at.Joined-zeros_stand-2 c).Joined-zeros_stand in
-      elim c.if-zeros_stand-2.branch [
-        | then-zeros_stand-2 w ↦ met _ _ _ _ so_far w.if-zeros_stand-2.true (w.value-is ∙ w.files_sound.ensures)
-        | else-zeros_stand-2 w ↦ unmet _ _ _ _ so_far w.if-zeros_stand-2.false w.value-is
+      let so_far = three_found (goal.at.Joined-channel_zeros_stand c).Joined-file_zeros_stand in
+      elim c.if-channel_zeros_stand.branch [
+        | then-channel_zeros_stand w ↦ met _ _ _ _ so_far w.if-channel_zeros_stand.true (w.value-is ∙ w.files_sound.ensures)
+        | else-channel_zeros_stand w ↦ unmet _ _ _ _ so_far w.if-channel_zeros_stand.false w.value-is
       ]
 
 module _ (c : Joined-files_sound) where
   five_found : c.if-files_sound.value ≡ five (tables_of c.args.store.now)
   five_found =
-      let so_far = four_found (goal.at.Joined-files_sound c).Joined-zeros_stand-2 in
+      let so_far = four_found (goal.at.Joined-files_sound c).Joined-channel_zeros_stand in
       elim c.if-files_sound.branch [
         | then-files_sound w ↦ met _ _ _ _ so_far w.if-files_sound.true (w.value-is ∙ w.owners_sound.ensures)
         | else-files_sound w ↦ unmet _ _ _ _ so_far w.if-files_sound.false w.value-is
@@ -99,15 +99,24 @@ module _ (c : Joined-files_sound) where
 
 -- ---- the answers
 
+pub file_zeros_stand-requires : goal.file_zeros_stand-requires
+file_zeros_stand-requires c = (few (tables_of c.args.store.now) (sym c.lengths_agree.ensures ∙ c.if-lengths_agree.true)).1
+
+pub channel_zeros_stand-requires : goal.channel_zeros_stand-requires
+channel_zeros_stand-requires c =
+    let t = tables_of c.args.store.now in
+    let e = sym (two_found (goal.at.channel_zeros_stand-requires c).Joined-lengths_agree) ∙ c.if-file_zeros_stand.true in
+    (few t (and_left (lengths_agree t) _ e)).2
+
 pub files_sound-requires : goal.files_sound-requires
 files_sound-requires c =
-    let e = sym (three_found (goal.at.files_sound-requires c).Joined-zeros_stand) ∙ c.if-zeros_stand-2.true in
+    let e = sym (three_found (goal.at.files_sound-requires c).Joined-file_zeros_stand) ∙ c.if-channel_zeros_stand.true in
     (few (tables_of c.args.store.now) (first_of (tables_of c.args.store.now) e)).1
 
 pub owners_sound-requires : goal.owners_sound-requires
 owners_sound-requires c =
     let t = tables_of c.args.store.now in
-    let e = sym (four_found (goal.at.owners_sound-requires c).Joined-zeros_stand-2) ∙ c.if-files_sound.true in
+    let e = sym (four_found (goal.at.owners_sound-requires c).Joined-channel_zeros_stand) ∙ c.if-files_sound.true in
     (few t (first_of t (and_left (three t) _ e))).0
 
 pub places_sound-requires : goal.places_sound-requires

@@ -1,15 +1,14 @@
 use Rattle.std.proofs.Common.{rules, arith, ◌≡◌, ◌∙◌}
 use Rattle.records.specs.Rows.{found_below, lowest_below}
 use Rattle.meaning.specs.Tables.{file_count, kind_at}
-use Rattle.meaning.specs.Types.{kind_number}
 use Rattle.tables.specs.Searches.{is_of_kind, file_with}
 use Rattle.tables.specs.Found.{found_index, no_index, file-found, file-nowhere}
 use Rattle.tables.proofs.find_file.Goals.{After-lowest}
 use Rattle.tables.proofs.find_file.Goals as goal
 
-found : (c : After-lowest) → c.lowest.result ≡ found_below (file_count c.args.records.now) (file_with c.args.records.now (kind_number c.args.kind))
+found : (c : After-lowest) → c.lowest.result ≡ found_below (file_count c.args.records.now) (file_with c.args.records.now c.args.kind)
 unfolding file_with kind_at lowest_below
-found c = c.lowest.ensures (is_of_kind c.args.records.now (kind_number c.args.kind)) (λ i b h post. search rules)
+found c = c.lowest.ensures (is_of_kind c.args.records.now c.args.kind) (λ i b h post. search rules)
 
 pub returns-in_err-r : goal.returns-in_err-r
 returns-in_err-r c = c.from_residual.ensures ∙ file-nowhere _ _ (no_index _ _ _ (found (goal.at.returns-in_err-r c).After-lowest) c.in_err-r.was)

@@ -62,14 +62,14 @@ module _ (t : Tables) (c n : ℕ) where
 
     module _ (x : FileRecord) (read : FileRead t.file_records (y.file.0 - 1) x) where
       kind : ((store_of t).file ((store_of t).channel c).file).kind ≡ x.kind
-      kind = kind_is t c y on ∙ sym read.kind
+      kind = kind_is t c y holds ∙ sym read.kind
 
       size : length ((store_of t).file ((store_of t).channel c).file).bytes ≡ x.length
-      size = size_is t c y on ∙ sym read.length
+      size = size_is t c y holds ∙ sym read.length
 
       short_file : x.length ≤ longest
       short_file =
-          let u = file_used t c y on in
+          let u = file_used t c y holds in
           let s : length ((store_of t).file y.file.0).bytes ≡ x.length = rw holds.file size in
           omega (arith, file-size (store_of t) (sound_well t holds.ok) y.file.0 u.some u.within)
 
@@ -123,11 +123,11 @@ module _ (t : Tables) (c n : ℕ) where
                 }
 
             form : OrdinaryFile ((store_of t).file y.file.0)
-            form = plain_file t c y on (rw (holds.file, kind) (eqb-false x.kind 2 plain))
+            form = plain_file t c y holds (rw (holds.file, kind) (eqb-false x.kind 2 plain))
 
             fits : more ≤ free → (bytes : List ℕ) → length bytes ≡ n → FileFits (store_of t) y.file.0 (with_write ((store_of t).file y.file.0) y.position bytes)
             fits m bytes l =
-                let u = file_used t c y on in
+                let u = file_used t c y holds in
                 let s : length ((store_of t).file y.file.0).bytes ≡ x.length = rw holds.file size in
                 let new : length (writeFILE ((store_of t).file y.file.0).bytes y.position bytes) ≡ max x.length (y.position + n) =
                 rw (holds.file, holds.posn) (rw holds.posn at (new-size bytes l)) in
@@ -156,7 +156,7 @@ module _ (t : Tables) (c n : ℕ) where
                         ← holds.posn,
                       ) at (given bytes);
                   fits = record {
-                    below = channel_there t c y on;
+                    below = channel_there t c y holds;
                     near = near;
                     kind = form.kind;
                     depth = form.depth;
@@ -170,7 +170,7 @@ returns-in_err-channel c =
     rw (p.1, p.2) (refusal _ _ _ _ c.in_err-channel.ensures)
 
 pub file_record-record-requires : goal.file_record-record-requires
-file_record-record-requires c = file_there _ _ _ c.in_ok-channel.ensures
+file_record-record-requires c = file_there _ _ _ (holding _ _ _ c.in_ok-channel.ensures)
 
 pub returns-then-is : goal.returns-then-is
 returns-then-is c = on_directory _ _ _ _ c.in_ok-channel.ensures _ c.file_record-record.ensures (sym c.is.ensures ∙ c.if-is.true)

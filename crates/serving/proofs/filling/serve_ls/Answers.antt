@@ -11,4 +11,4 @@ pub slice_bounds-print_counted-end : goal.slice_bounds-print_counted-end
 slice_bounds-print_counted-end c = rw c.unwrap_or.ensures (head _ _ _ _ _ _ c.ls-answer.ensures refl 14 (ls_sized _ _ _) _ refl)
 
 pub returns : goal.returns
-returns c = filled _ _ _ _ _ _ c.ls-answer.ensures refl 14 (ls_sized _ _ _) _ refl _ _ (rw c.unwrap_or.ensures at c.print_counted.ensures)
+returns c = filled _ _ _ _ _ _ c.ls-answer.ensures refl 14 (ls_sized _ _ _) _ refl _ _ _ _ (rw c.unwrap_or.ensures at c.print_counted.ensures)

@@ -9,5 +9,5 @@ slice_bounds-print_counted-end c = head _ _ _ _ _ _ c.read-answer.ensures refl 1
 
 pub returns : goal.returns
 returns c =
-    let s = filled _ _ _ _ _ _ c.read-answer.ensures refl 1 (read_sized _ _ _) _ (omega (arith, c.unwrap_or-n.ensures)) _ _ c.print_counted.ensures in
-    of_count _ _ _ c.requires.brief _ _ _ _ s
+    let s = filled _ _ _ _ _ _ c.read-answer.ensures refl 1 (read_sized _ _ _) _ (omega (arith, c.unwrap_or-n.ensures)) _ _ _ _ c.print_counted.ensures in
+    of_count _ _ _ c.requires.brief _ _ _ _ _ _ s

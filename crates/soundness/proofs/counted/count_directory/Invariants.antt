@@ -4,4 +4,4 @@ use Rattle.soundness.specs.Rules.{Counted}
 use Rattle.soundness.proofs.counted.count_directory.Given as goal
 
 abbrev pub invariant-loop-i : goal.invariant-loop-i
-invariant-loop-i l = (l.i ≤ l.records.count) × Counted l.records.blocks.now l.records.starts l.i l.initial.counts l.counts
+invariant-loop-i l = (l.i ≤ l.records.count) × Counted l.records.blocks.now l.records.starts.now l.i l.initial.counts l.counts

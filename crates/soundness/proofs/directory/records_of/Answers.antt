@@ -4,5 +4,4 @@ use Rattle.soundness.proofs.directory.records_of.Goals as goal
 pub invariant_of-result : goal.invariant_of-result
 invariant_of-result c =
     let p = c.requires in
-    let found = rw (c.places.ensures, p.size_is) at c.find_blocks-starts.ensures in
-    record { within = rw p.size_is (within_placed _ _ _ p.placed _ p.f_in_bounds.1 _ found) }
+    record { within = rw p.size_is (within_placed _ _ _ p.placed _ p.f_in_bounds.1 _ p.found) }

@@ -38,13 +38,16 @@ module _ (blocks records files : List ℕ) (placed : Placed blocks records files
 
 so_far : (c : Joined-all_sound) →
     c.if-all_sound.value
-    ≡ records_at (files_store c.args.store.now.file_records.now) c.records_of-records.result.blocks.now c.records_of-records.result.starts c.records_of-records.result.count
-    && names_at c.records_of-records.result.blocks.now c.records_of-records.result.starts c.records_of-records.result.count
+    ≡ records_at (files_store c.args.store.now.file_records.now) c.records_of-records.result.blocks.now c.records_of-records.result.starts.now c.records_of-records.result.count
+    && names_at c.records_of-records.result.blocks.now c.records_of-records.result.starts.now c.records_of-records.result.count
 so_far c =
     elim c.if-all_sound.branch [
       | then-all_sound w ↦ met _ _ _ _ c.all_sound.ensures w.if-all_sound.true (w.value-is ∙ w.all_new.ensures)
       | else-all_sound w ↦ unmet _ _ _ _ c.all_sound.ensures w.if-all_sound.false w.value-is
     ]
+
+pub starts_of-starts-requires-clause-size_is : goal.starts_of-starts-requires-clause-size_is
+starts_of-starts-requires-clause-size_is c = sym (size-read _ _ _ c.requires.placed _ c.requires.f_in_bounds _ c.requires.read_is)
 
 pub records_of-records-requires-clause-size_is : goal.records_of-records-requires-clause-size_is
 records_of-records-requires-clause-size_is c = sym (size-read _ _ _ c.requires.placed _ c.requires.f_in_bounds _ c.requires.read_is)
@@ -53,7 +56,7 @@ records_of-records-requires-clause-size_is c = sym (size-read _ _ _ c.requires.p
 pub invariant_of-all_new : goal.invariant_of-all_new
 invariant_of-all_new c =
     let r = c.records_of-records.result in
-    record { padded = padded-sound (files_store c.args.store.now.file_records.now) r.blocks.now r.starts r.count r.within (sym c.all_sound.ensures ∙ c.if-all_sound.true) }
+    record { padded = padded-sound (files_store c.args.store.now.file_records.now) r.blocks.now r.starts.now r.count r.within (sym c.all_sound.ensures ∙ c.if-all_sound.true) }
 
 pub returns-then-all_new : goal.returns-then-all_new
 returns-then-all_new c =

@@ -5,4 +5,4 @@ pub returns-in_default : goal.returns-in_default
 returns-in_default c call = rw c.in_default.is (no_data call)
 
 pub returns : goal.returns
-returns c call = rw (c.in-Some.is, c.then_some.ensures) (data_taken call _ _ c.is_empty.ensures)
+returns c = search data_taken

@@ -1,25 +1,27 @@
-use Rattle.std.proofs.Common.{◌<◌, ◌≡◌, refl, ◌∙◌, List, [], ◌∷◌, ℕ, Bool, false, not, length, ◌==◌, arith, ne_eqb}
+-- A line that has a byte is one; so many have come, or there are too many.
+use Rattle.std.proofs.Common.{rules, ℕ, ◌≤◌, ◌≡◌, refl, List, [], ◌∷◌, true, false, ltb, length, arith, lt-ltb}
 use Rattle.records.specs.Rows.{pick}
+use Rattle.text.specs.Line.{longest_line}
 use Rattle.text.specs.Program.{unended}
+use Rattle.text.specs.Gathering.{Pends}
+use Rattle.text.specs.GatheringLaws.{too_long, pending_length}
+use Rattle.text.specs.declared.lines.Pending.{Pending}
 use Rattle.text.proofs.lines.has_line.Goals as goal
 
--- a line that has a byte is one
-last_line : (bytes : List ℕ) (t : Bool) → t ≡ (length bytes == 0) → unended bytes ≡ pick (not t) (bytes ∷ []) []
+last_line : (bytes : List ℕ) → unended bytes ≡ pick (ltb 0 (length bytes)) (bytes ∷ []) []
 unfolding unended
-last_line [] t e = rw e
-last_line (b ∷ bytes) t e =
-    let f : t ≡ false = e ∙ ne_eqb (length (b ∷ bytes)) 0 (λ (z : length (b ∷ bytes) ≡ 0). omega arith) in
-    rw f
+last_line [] = refl
+last_line (b ∷ bytes) = rw (lt-ltb 0 (length (b ∷ bytes)) (omega arith))
 
-long_line : (bytes : List ℕ) → 1024 < length bytes → unended bytes ≡ bytes ∷ []
-unfolding unended
-long_line [] h = absurd (omega arith)
-long_line (b ∷ bytes) h = refl
+module _ (p : Pending) (bytes : List ℕ) (pends : Pends bytes p) where
+  long_line : p.long ≡ true → unended bytes ≡ bytes ∷ []
+  long_line e = rw (last_line bytes, lt-ltb 0 (length bytes) (omega (arith, too_long bytes p pends e)))
 
-pub returns-in-Some : goal.returns-in-Some
-returns-in-Some c bytes h =
-    let e = rw c.in-Some.is at h in
-    last_line bytes _ (rw (← e) at c.is_empty.ensures)
+  some_line : p.long ≡ false → longest_line ≤ length p.bytes → unended bytes ≡ pick (ltb 0 p.len) (bytes ∷ []) []
+  some_line e room = rw (last_line bytes, pending_length bytes p pends e room)
 
-pub returns-in-None : goal.returns-in-None
-returns-in-None c bytes h = long_line bytes (rw c.in-None.is at h)
+pub returns-then-line : goal.returns-then-line
+returns-then-line c bytes h = rw c.if-line.true (long_line _ bytes h c.if-line.true)
+
+pub returns-else-line : goal.returns-else-line
+returns-else-line c bytes h = some_line _ bytes h c.if-line.false (search rules)

@@ -1,16 +1,14 @@
--- Either way the output holds the answer's row, and then the newline.
-use Rattle.std.proofs.Common.{[]}
+-- The report and the numbers, or a refusal.
+use Rattle.std.proofs.Common.{[], ap, sym, ◌∙◌}
+use Rattle.meaning.specs.Run.{accepted}
 use Rattle.meaning.specs.Answers.{answered}
-use Rattle.text.specs.Print.{printed}
-use Rattle.text.proofs.PrintLaws.{numbers_line, refusal_line, ends_line}
+use Rattle.text.proofs.PrintLaws.{numbers_alone, refusal_line}
 use Rattle.text.proofs.print.print_answer.Goals as goal
-use Rattle.text.proofs.print.print_answer.Goals.{in-Ok, in-Err}
 
-pub returns : goal.returns
-returns g c n =
-    ends_line c.args.out.now.items c.match-answer.out.items _ (printed (answered n g.T.Values.numbers c.args.answer) [])
-    (elim c.match-answer.branch [
-      | in-Ok w ↦ rw (w.out-is, w.in-Ok.is) (numbers_line _ _ _ _ w.push.ensures.items (rw w.numbers.ensures at w.put_numbers.ensures.items))
-      | in-Err w ↦ rw (w.out-is, w.in-Err.is) (refusal_line _ _ _ n w.in-Err.why [] w.from.ensures w.put_decimal.ensures.items)
-    ])
-    c.push-2.ensures.items
+pub returns-in-Ok : goal.returns-in-Ok
+returns-in-Ok g c n =
+    numbers_alone _ _ _ _ _ _ _ _ _ _ (ap (answered n g.T.Values.numbers) c.in-Ok.is ∙ ap accepted (sym c.numbers.ensures)) c.put_byte-next.ensures
+    c.put_numbers-end.ensures.lays c.put_byte.ensures
+
+pub returns-in-Err : goal.returns-in-Err
+returns-in-Err g c n = refusal_line _ n _ [] _ _ _ _ (ap (answered n g.T.Values.numbers) c.in-Err.is) c.print_refusal.ensures

@@ -1,15 +1,17 @@
--- Either way the output holds the answer's row, and then the newline.
+-- The report, a count, and the bytes; or a refusal.
+use Rattle.std.proofs.Common.{[], ap, arith}
 use Rattle.meaning.specs.Answers.{counted}
-use Rattle.text.specs.Print.{printed}
-use Rattle.text.proofs.PrintLaws.{count_line, refusal_line, ends_line}
+use Rattle.text.proofs.PrintLaws.{hex-word-length, behind_zero, numbers_line, refusal_line}
 use Rattle.text.proofs.print.print_counted.Goals as goal
-use Rattle.text.proofs.print.print_counted.Goals.{in-Ok, in-Err}
 
-pub returns : goal.returns
-returns c =
-    ends_line c.args.out.now.items c.match-answer.out.items _ (printed (counted c.args.answer) c.args.bytes.now)
-    (elim c.match-answer.branch [
-      | in-Ok w ↦ rw (w.out-is, w.in-Ok.is) (count_line _ _ _ _ _ _ w.push.ensures.items w.put_numbers.ensures.items w.put_hex_word.ensures.items)
-      | in-Err w ↦ rw (w.out-is, w.in-Err.is) (refusal_line _ _ _ 1 w.in-Err.why _ w.from.ensures w.put_decimal.ensures.items)
-    ])
-    c.push-2.ensures.items
+pub put_byte-requires : goal.put_byte-requires
+put_byte-requires c =
+    omega (arith, hex-word-length c.args.bytes.now, c.put_byte-next.ensures.ends, c.put_number-behind.ensures.near, c.put_hex_word-end.ensures.ends)
+
+pub returns-in-Ok : goal.returns-in-Ok
+returns-in-Ok c =
+    let one = behind_zero _ _ _ _ _ _ _ c.put_byte-next.ensures c.put_number-behind.ensures in
+    numbers_line _ _ [] _ _ _ _ _ _ _ _ _ (ap counted c.in-Ok.is) one.lays c.put_hex_word-end.ensures c.put_byte.ensures
+
+pub returns-in-Err : goal.returns-in-Err
+returns-in-Err c = refusal_line _ 1 _ _ _ _ _ _ (ap counted c.in-Err.is) c.print_refusal.ensures

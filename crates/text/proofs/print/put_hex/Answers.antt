@@ -1,34 +1,19 @@
-use Rattle.std.proofs.Common.{ℕ, ◌*◌, ◌≡◌, refl, sym, ◌∙◌, true, List, [], ◌∷◌, ◌++◌, ◌==◌, length, ap, take-append-drop, length-append, append-nil, append_assoc, eqb-true, arith}
+use Rattle.std.proofs.Common.{ℕ, ◌+◌, ◌*◌, ◌≤◌, ◌≡◌, refl, List, [], ◌∷◌, length, take, arith, rules}
 use Rattle.text.specs.Print.{hex}
-use Rattle.text.proofs.PrintLaws.{hex-append}
+use Rattle.text.specs.Lays.{Lays}
+use Rattle.text.proofs.PrintLaws.{hex-append, each_start, each_more}
 use Rattle.text.proofs.print.put_hex.Goals as goal
 
-hex_size : (bytes : List ℕ) → length (hex bytes) ≡ 2 * length bytes
+hex_start : (out : List ℕ) (at : ℕ) (bytes : List ℕ) → at + 2 * length bytes ≤ length out → Lays out at (hex (take 0 bytes)) out at
 unfolding hex
-hex_size [] = refl
-hex_size (b ∷ bytes) = let s = hex_size bytes in omega arith
+hex_start out at bytes h = each_start hex refl out at bytes (omega arith)
 
-module _ (out old rest bytes : List ℕ) (so_far : out ++ hex rest ≡ old ++ hex bytes) where
-  more : (out' digits part behind : List ℕ) → out' ≡ out ++ digits → digits ≡ hex part → rest ≡ part ++ behind → out' ++ hex behind ≡ old ++ hex bytes
-  more out' digits part behind p q e = rw (p, q, append_assoc, ← hex-append part behind, ← e) so_far
-
-all : (out old rest bytes : List ℕ) → out ++ hex rest ≡ old ++ hex bytes → true ≡ (length rest == 0) → out ≡ old ++ hex bytes
+next_place : (out out' : List ℕ) (at i next next' b : ℕ) → next ≡ at + 2 * i → Lays out next (hex (b ∷ [])) out' next' → next' ≡ at + 2 * (i + 1)
 unfolding hex
-all out old [] bytes e h = sym (append-nil out) ∙ e
-all out old (b ∷ rest) bytes e h = let z : length (b ∷ rest) ≡ 0 = eqb-true _ _ (sym h) in absurd (omega arith)
+next_place out out' at i next next' b e l = omega (arith, l.ends)
 
-pub loop-rest-preserved : goal.loop-rest-preserved
-loop-rest-preserved c =
-    let appended = rw c.unwrap.ensures at c.try_extend_from_slice.ensures.ok in
-    let longer = rw c.unwrap.ensures at c.try_extend_from_slice.ensures.len in
-    let both : c.loop-rest.rest.now ≡ c.split_at.result.0.now ++ c.split_at.result.1.now = rw (c.split_at.ensures.front, c.split_at.ensures.back, take-append-drop) in
-    record {
-      items = more _ _ _ _ c.loop-rest.invariant.items _ _ _ _ appended c.hex_row.ensures both;
-      len =
-          let size = ap length both in
-          let filled : length c.hex_row.new.row ≡ 2 * length c.split_at.result.0.now = ap length c.hex_row.ensures ∙ hex_size _ in
-          omega (arith, length-append {A = ℕ}, longer, filled);
-    }
+pub loop-b-init : goal.loop-b-init
+loop-b-init c = record { size = refl; ends = omega arith; lays = search hex_start }
 
-pub returns-clause-items : goal.returns-clause-items
-returns-clause-items c = all _ _ _ _ c.loop-rest.invariant.items c.loop-rest-test.ensures
+pub loop-b-preserved : goal.loop-b-preserved
+loop-b-preserved c = record { size = search rules; ends = search next_place; lays = search (each_more hex hex-append) }

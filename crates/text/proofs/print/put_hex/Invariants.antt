@@ -1,15 +1,13 @@
--- What the output holds, and what is left in hex behind it, is the whole.
-use Rattle.std.proofs.Common.{◌≡◌, ◌+◌, ◌*◌, ◌++◌, length}
-use Rattle.arrayvec.specs.ArrayVec.{array_vec_len}
+-- The bytes passed stand in hex, two digits each.
+use Rattle.std.proofs.Common.{◌+◌, ◌*◌, ◌≡◌, length, take}
 use Rattle.text.specs.Print.{hex}
+use Rattle.text.specs.Lays.{Lays}
 use Rattle.text.proofs.print.put_hex.Given as goal
 
-abbrev pub invariant-loop-rest : goal.invariant-loop-rest
-invariant-loop-rest l =
+abbrev pub invariant-loop-b : goal.invariant-loop-b
+invariant-loop-b l =
     record {
-      items : l.out.items ++ hex l.rest ≡ l.initial.out.items ++ hex l.initial.rest;
-      len : array_vec_len l.out + 2 * length l.rest ≡ array_vec_len l.initial.out + 2 * length l.initial.rest;
+      size : length l.out ≡ length l.initial.out;
+      ends : l.next ≡ l.at + 2 * l.b-index;
+      lays : Lays l.initial.out l.at (hex (take l.b-index l.bytes)) l.out l.next;
     }
-
-abbrev pub decreases-loop-rest : goal.decreases-loop-rest
-decreases-loop-rest l = length l.rest

@@ -1,11 +1,13 @@
-use Rattle.std.proofs.Common.{◌≡◌, ◌≤◌, ◌+◌, ◌*◌, ◌++◌, take}
-use Rattle.arrayvec.specs.ArrayVec.{array_vec_len}
+-- The numbers passed stand in their places, each in eleven bytes at most.
+use Rattle.std.proofs.Common.{◌+◌, ◌*◌, ◌≤◌, ◌≡◌, length, take}
 use Rattle.text.specs.Print.{spaced}
+use Rattle.text.specs.Lays.{Lays}
 use Rattle.text.proofs.print.put_numbers.Given as goal
 
 abbrev pub invariant-loop-n : goal.invariant-loop-n
 invariant-loop-n l =
     record {
-      items : l.out.items ≡ l.initial.out.items ++ spaced (take l.n-index l.numbers);
-      len : array_vec_len l.out ≤ array_vec_len l.initial.out + 11 * l.n-index;
+      size : length l.out ≡ length l.initial.out;
+      near : l.next ≤ l.at + 11 * l.n-index;
+      lays : Lays l.initial.out l.at (spaced (take l.n-index l.numbers)) l.out l.next;
     }

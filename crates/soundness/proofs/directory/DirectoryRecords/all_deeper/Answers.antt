@@ -9,5 +9,5 @@ pub returns : goal.returns
 unfolding deeper_at
 returns c =
     c.every.ensures
-    (λ i. deeper_than (files_store c.args.file_records.now) c.args.depth (entry_at c.args.self.now.blocks.now (slot c.args.self.now.starts i)).file)
+    (λ i. deeper_than (files_store c.args.file_records.now) c.args.depth (entry_at c.args.self.now.blocks.now (slot c.args.self.now.starts.now i)).file)
     (λ i b h post. search rules)

@@ -8,4 +8,4 @@ use Rattle.soundness.proofs.directory.DirectoryRecords.all_sound.Goals as goal
 pub returns : goal.returns
 unfolding records_at
 returns c =
-    c.every.ensures (λ i. record_sound (files_store c.args.file_records.now) c.args.self.now.blocks.now (slot c.args.self.now.starts i)) (λ i b h post. search rules)
+    c.every.ensures (λ i. record_sound (files_store c.args.file_records.now) c.args.self.now.blocks.now (slot c.args.self.now.starts.now i)) (λ i b h post. search rules)

@@ -10,4 +10,4 @@ use Rattle.soundness.proofs.distinct.Names.all_chained.Given as goal
 abbrev pub invariant-loop-i : goal.invariant-loop-i
 invariant-loop-i l =
     let r = l.self.records.now in
-    (l.i ≤ r.count) × (every l.i (new_at r.blocks.now r.starts) ≡ true) × Lasts r.blocks.now r.starts l.i l.lasts × Links r.blocks.now r.starts l.i l.links
+    (l.i ≤ r.count) × (every l.i (new_at r.blocks.now r.starts.now) ≡ true) × Lasts r.blocks.now r.starts.now l.i l.lasts × Links r.blocks.now r.starts.now l.i l.links

@@ -16,6 +16,6 @@ same_name-requires c =
 pub returns : goal.returns
 returns c =
     let blocks = c.args.self.now.records.now.blocks.now in
-    let starts = c.args.self.now.records.now.starts in
+    let starts = c.args.self.now.records.now.starts.now in
     c.same_name.ensures
     ∙ rw (c.start-at.ensures.at, c.start-other.ensures.at, ← entry-at blocks (slot starts c.args.i), ← entry-at blocks (slot starts c.args.j))

@@ -6,9 +6,9 @@ use Rattle.soundness.specs.Together.{held_or, asked_or}
 use Rattle.soundness.proofs.distinct.Names.is_new.Goals as goal
 
 compared : (c : goal.After-every) →
-    c.every.result ≡ every c.args.i (other c.args.self.now.records.now.blocks.now c.args.self.now.records.now.starts c.args.i)
+    c.every.result ≡ every c.args.i (other c.args.self.now.records.now.blocks.now c.args.self.now.records.now.starts.now c.args.i)
 unfolding other
-compared c = c.every.ensures (other c.args.self.now.records.now.blocks.now c.args.self.now.records.now.starts c.args.i) (λ j b h post. search rules)
+compared c = c.every.ensures (other c.args.self.now.records.now.blocks.now c.args.self.now.records.now.starts.now c.args.i) (λ j b h post. search rules)
 
 pub returns-then-is_blank : goal.returns-then-is_blank
 unfolding new_at
