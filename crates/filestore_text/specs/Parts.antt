@@ -72,9 +72,8 @@ abbrev pub served_of : Bool → List ℕ → List (List ℕ)
 served_of true input = lines input
 served_of false input = completed [] input
 
--- `input` is all that was read and served, and `handed` all that was handed to write (`written input` where it has ended). Both are only said to be there:
--- where it is known which bytes a reader has left, `ServesGiven` says that they are those that it gave, and `MovesAll` names them and what is written
--- where all of it is.
+-- `input` is all that was read and served, and `handed` all that was handed to write (`written input` where it has ended). Both are only said to be there.
+-- Where it is known which bytes a reader has left and a writer holds, `ServesGiven` says that what is served was read, and `MovesAll` what is written.
 pub record ServesInput (t : Tables) (ended : Bool) : Type 0 where
   pub input : List ℕ
   pub handed : List ℕ

@@ -38,7 +38,8 @@ pub fn serve_last(store: &mut Store, line: &Pending, out: &mut Output)
     requires { out.old.at + line_room ≤ OUTPUT }
     ensures { PrintsLast line.now (tables_in store.old) (waiting out.old) (tables_in store.new) (waiting out.new) }
 {
-    if has_line(line) {
+    let has = has_line(line);
+    if has {
         out.at = serve_line(
             &mut store.blocks,
             &mut store.block_records,
